@@ -1,0 +1,10 @@
+pub mod Code
+pub mod Words
+pub mod KeyEquation
+pub mod Multiplicity
+pub mod Koetter
+pub mod Rational
+pub mod Setting
+pub mod Sift
+pub mod Pairs
+pub mod Walk

@@ -1,0 +1,21 @@
+-- The settings (τ, s, ℓ) that a list decoder takes, for a code of n places with the threshold k.
+use mathlib.Core.Logic.{_⊎_}
+use Prim.Native.Nat.{ℕ, suc, _+_, _-_, _*_, _≤_, _<_}
+
+-- the minimum distance
+abbrev pub minimum-distance : ℕ → ℕ → ℕ
+minimum-distance n k = n - k + 1
+
+-- within half the distance, or past it with room for an interpolant: more coefficients than constraints
+abbrev pub Reach : ℕ → ℕ → ℕ → ℕ → ℕ → Type 0
+Reach n d τ s ℓ =
+    (2 * τ < d) ⊎ ((d ≤ 2 * τ) × (n * (s * suc s) + ℓ * suc ℓ * (2 * τ - d) < 2 * suc ℓ * (s * τ)))
+
+pub record Accepted (n k τ s ℓ : ℕ) : Type 0 where
+  pub some : 1 ≤ k
+  pub fewer : k < n
+  pub multiplicity : 1 ≤ s
+  pub order : s ≤ ℓ
+  pub short : ℓ ≤ 8
+  pub work : n * (s * suc s) ≤ 800
+  pub reach : Reach n (minimum-distance n k) τ s ℓ
