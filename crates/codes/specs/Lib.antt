@@ -1,0 +1,4 @@
+pub mod Valid
+pub mod First
+pub mod Settings
+pub mod Opening
