@@ -1,0 +1,1 @@
+// The stages of a listing as definitions that compute: no code.
