@@ -13,11 +13,12 @@ use Rattle.std.specs.Iters.{counting}
 use Rattle.std.proofs.shelf.Counted.{length-map-counting, getD-map-counting}
 use Rattle.algebra.specs.Ring.{Ring}
 use Rattle.algebra.specs.Field.{Field}
-use Rattle.algebra.specs.Poly.{sum as sumOf, pow as powOf, conv, padd, pneg, scale, const, Below}
+use Rattle.algebra.specs.Sums.{sum as sumOf, pow as powOf, prod}
+use Rattle.algebra.specs.Poly.{conv, padd, pneg, scale, const, Below, mono, Degree}
 use Rattle.algebra.specs.PolyRing.{const-conv, conv-assoc}
 use Rattle.algebra.specs.RingLaws as L
-use Rattle.keyeq.specs.Names.{mono, Degree, prod, size as sizeOf}
-use Rattle.keyeq.proofs.Degrees.{size-below, size-degree as degree-of-size}
+use Rattle.algebra.specs.Division.{size as sizeOf}
+use Rattle.algebra.proofs.Degrees.{size-below, size-degree as degree-of-size}
 use Rattle.fields.specs.Numbers.{Numbers, AllBelow, Element, elem, pos, plus, minus, times, ring-of, field-of, elem-add, elem-mul, elem-neg, elem-inj}
 use Rattle.polynomials.specs.Series.{poly, plus-shifted}
 use Rattle.polynomials.proofs.Readings.{all-at, past, poly-past, multiple-zero}

@@ -11,15 +11,15 @@ use lib.ListN.{length, getD, replicate}
 use borrow.Author.Tests.{leb-true, leb-false}
 use Rattle.std.proofs.shelf.Lists.{length-append, length-replicate}
 use Rattle.algebra.specs.Ring.{Ring}
-use Rattle.algebra.specs.Poly.{conv, padd, pneg, pzero, const, Below}
+use Rattle.algebra.specs.Poly.{conv, padd, pneg, pzero, const, Below, mono, Degree}
 use Rattle.algebra.specs.PolyRing.{Poly}
 use Rattle.algebra.specs.Solve.{ring}
 use Rattle.algebra.specs.PolyForms.{forms}
 use Rattle.algebra.specs.RingLaws as L
-use Rattle.keyeq.specs.Names.{mono, Degree, quotient, reduce}
-use Rattle.keyeq.specs.Euclid.{Row as RowOf, Rows as RowsOf, top, second, ratio, next as nextOf, Stopped}
-use Rattle.keyeq.proofs.Degrees.{degree-less}
-use Rattle.keyeq.proofs.Rows as Theory
+use Rattle.algebra.specs.Division.{quotient, reduce}
+use Rattle.algebra.specs.Euclid.{Row as RowOf, Rows as RowsOf, top, second, ratio, next as nextOf, Stopped}
+use Rattle.algebra.proofs.Degrees.{degree-less}
+use Rattle.algebra.proofs.Rows as Theory
 use Rattle.fields.specs.Numbers.{Numbers, AllBelow, Element, elem, pos, plus, minus, times, over, ring-of, field-of, elem-mul, elem-inv, elem-neg}
 use Rattle.polynomials.specs.Series.{poly, plus-shifted}
 use Rattle.polynomials.proofs.Readings.{all-at, past, poly-past}

@@ -1,3 +1,4 @@
 pub mod Coefficients
 pub mod Syndrome
 pub mod Euclid
+pub mod Words

@@ -9,11 +9,13 @@ use native.Mathlib.Numerals.{add-one}
 use lib.Dec.{eqb}
 use lib.ListN.{length, getD}
 use Rattle.std.proofs.shelf.Lists.{length-append, getD-append-add, getD-append-left}
-use Rattle.algebra.specs.Poly.{sum as sumOf, pow as powOf}
+use Rattle.algebra.specs.Sums.{sum as sumOf, pow as powOf, prod, but, all}
 use Rattle.algebra.specs.RingLaws as L
 use Rattle.algebra.proofs.Sums.{sum-cong, sum-zero}
-use Rattle.keyeq.specs.Names.{Code, geo, prod, but, all, weight, dual as dualOf, syndrome as syndromeOf}
-use Rattle.keyeq.proofs.Monomials.{geo-at, geo-below}
+use Rattle.decoding.specs.Code.{Code, dual as dualOf, syndrome as syndromeOf}
+use Rattle.algebra.specs.Poly.{geo}
+use Rattle.algebra.specs.Lagrange.{barycentric}
+use Rattle.algebra.proofs.Monomials.{geo-at, geo-below}
 use Rattle.fields.specs.Numbers.{Numbers, AllBelow, Element, elem, pos, plus, minus, times, over, ring-of, field-of, elem-add, elem-mul, elem-neg, elem-inv}
 use Rattle.polynomials.specs.Series.{poly}
 use Rattle.polynomials.proofs.Readings.{all-at, past}
@@ -26,9 +28,9 @@ module _ (F : Numbers) (αs vs : List ℕ) (hα : AllBelow (F .q) αs) (hv : All
   apart : ℕ → ℕ → ℕ
   apart j h = F .add (getD αs j 0) (F .neg (getD αs h 0))
 
-  weight-is : (j : ℕ) → elem F (F .inv (product F (length αs) (λ h. cond (eqb h j) 1 (apart j h)))) ≡ weight (field-of F) (length αs) (poly F αs) j
-  unfolding weight poly apart
-  weight-is j =
+  barycentric-is : (j : ℕ) → elem F (F .inv (product F (length αs) (λ h. cond (eqb h j) 1 (apart j h)))) ≡ barycentric (field-of F) (length αs) (poly F αs) j
+  unfolding barycentric poly apart
+  barycentric-is j =
       elem-inv F _ (product-below F (length αs) _)
       ∙ ap (over F) (product-is F (length αs) (λ h. eqb h j) (apart j) (λ h. F .laws .add-below _ _)
       ∙ ap (prod (ring-of F) (length αs) (but j all)) (fun-ext (λ h. difference h)))
@@ -42,18 +44,18 @@ module _ (F : Numbers) (αs vs : List ℕ) (hα : AllBelow (F .q) αs) (hv : All
   unfolding dual
   dual-below j = F .laws .mul-below _ _
 
-  dual-is : (j : ℕ) → elem F (dual F αs vs j) ≡ times F (over F (poly F vs j)) (weight (field-of F) (length αs) (poly F αs) j)
+  dual-is : (j : ℕ) → elem F (dual F αs vs j) ≡ times F (over F (poly F vs j)) (barycentric (field-of F) (length αs) (poly F αs) j)
   unfolding dual poly apart
   dual-is j =
       elem-mul F _ _ (F .laws .inv-below _) (F .laws .inv-below _)
-      ∙ ap₂ (times F) (elem-inv F (getD vs j 0) (all-at F vs hv j)) (weight-is j)
+      ∙ ap₂ (times F) (elem-inv F (getD vs j 0) (all-at F vs hv j)) (barycentric-is j)
 
   module _ (D : ℕ) (rs : List ℕ) (hr : AllBelow (F .q) rs) where
     term : ℕ → ℕ → ℕ
     term i j = F .mul (F .mul (getD rs j 0) (dual F αs vs j)) (power F (getD αs j 0) (D - 1 - i))
 
     term-is : (i j : ℕ) → i < D → elem F (term i j)
-        ≡ times F (times F (poly F rs j) (times F (over F (poly F vs j)) (weight (field-of F) (length αs) (poly F αs) j))) (geo (ring-of F) D (poly F αs j) i)
+        ≡ times F (times F (poly F rs j) (times F (over F (poly F vs j)) (barycentric (field-of F) (length αs) (poly F αs) j))) (geo (ring-of F) D (poly F αs j) i)
     unfolding term poly
     term-is i j h =
         elem-mul F _ _ (F .laws .mul-below _ _) (power-below F _ _)
@@ -64,7 +66,7 @@ module _ (F : Numbers) (αs vs : List ℕ) (hα : AllBelow (F .q) αs) (hv : All
         ∙ sym (geo-at (ring-of F) D (elem F (getD αs j 0)) i h))
 
     coefficient-is : (i : ℕ) → i < D → elem F (coefficient F αs vs D rs i)
-        ≡ sumOf (ring-of F) (length αs) (λ j. times F (times F (poly F rs j) (times F (over F (poly F vs j)) (weight (field-of F) (length αs) (poly F αs) j))) (geo (ring-of F) D (poly F αs j) i))
+        ≡ sumOf (ring-of F) (length αs) (λ j. times F (times F (poly F rs j) (times F (over F (poly F vs j)) (barycentric (field-of F) (length αs) (poly F αs) j))) (geo (ring-of F) D (poly F αs j) i))
     unfolding coefficient term
     coefficient-is i h =
         sum-is F (length αs) (term i) (λ j. F .laws .mul-below _ _) ∙ sum-cong (ring-of F) (length αs) _ _ (λ j _. term-is i j h)

@@ -1,16 +1,19 @@
--- What the definitions on lists mean in the decoder's theory: the syndrome of lists is the syndrome of the code that they make, and the run of the rows
--- ends at rows at which Euclid's algorithm stops.
+-- What the definitions on lists mean in the decoder's theory: the syndrome of lists is the syndrome of the code that they make, the run of the rows
+-- ends at rows at which Euclid's algorithm stops, and the distance of lists is that of the words.
 use mathlib.Core.Path.{_≡_}
 use mathlib.Core.List.{List}
 use Prim.Native.Nat.{ℕ, suc, _≤_}
 use lib.ListN.{length, getD}
 use Rattle.algebra.specs.Ring.{Ring}
-use Rattle.keyeq.specs.Names.{Distinct, NonZero, Code, syndrome as syndromeOf}
-use Rattle.keyeq.specs.Euclid.{Row as RowOf, Stopped}
+use Rattle.algebra.specs.Sums.{Distinct, NonZero}
+use Rattle.decoding.specs.Code.{Code, syndrome as syndromeOf}
+use Rattle.algebra.specs.Euclid.{Row as RowOf, Stopped}
+use Rattle.decoding.specs.Words.{distance as distanceOf}
 use Rattle.fields.specs.Numbers.{Numbers, AllBelow, Element, ring-of, field-of}
 use Rattle.polynomials.specs.Series.{poly}
 use Rattle.stages.specs.Syndrome.{syndrome}
 use Rattle.stages.specs.Euclid.{Row, Rows, rows}
+use Rattle.stages.specs.Words.{distance}
 
 module _ (F : Numbers) where
   -- the code with the points αs, the multipliers vs and D check symbols
@@ -55,3 +58,9 @@ abbrev pub Rows-stop : Type 0
 Rows-stop =
     (F : Numbers) (limit : ℕ → ℕ) (D : ℕ) (S : List ℕ) → AllBelow (F .q) S → length S ≡ suc D → getD S D 0 ≡ 0 → limit 0 ≤ D
     → Stops F limit D (poly F S) (rows F limit D S)
+
+-- The distance of lists is the theory's
+abbrev pub Distance-reads : Type 0
+Distance-reads =
+    (F : Numbers) (n : ℕ) (r c : List ℕ) → AllBelow (F .q) r → AllBelow (F .q) c
+    → distance n r c ≡ distanceOf (field-of F) n (poly F r) (poly F c)
