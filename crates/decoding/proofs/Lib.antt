@@ -18,3 +18,4 @@ pub mod AtMost
 pub mod Walk
 pub mod Whole
 pub mod Once
+pub mod Theorems

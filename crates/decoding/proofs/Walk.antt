@@ -22,7 +22,7 @@ use Rattle.algebra.proofs.PolySums.{times-below}
 use Rattle.algebra.proofs.Homogeneous.{form-swap, form-scale}
 use Rattle.algebra.proofs.Coprime.{const-inverse, coprime-sym, coprime-neg, coprime-scale, coprime-constant}
 use Rattle.decoding.specs.Rational.{Plain, Root}
-use Rattle.decoding.specs.Walk.{Allowed, Visited, LeafRows, Leaf, turned}
+use Rattle.decoding.specs.Walk.{Allowed, Visited, LeafRows, Leaf, turned, Found, FoundTurned}
 use Rattle.decoding.specs.Walk.Visited.{start, further}
 use Rattle.decoding.proofs.Reconstruct.{row-coprime, row-b, reconstruct-coprime}
 use Rattle.decoding.proofs.Digit.{next, prefix, prefix-order, prefix-allowed}
@@ -105,10 +105,7 @@ module _ (𝓕 : Field) where
 
     -- The first chart: stop is where Euclid's algorithm stops, for each leaf
     module _ (stop : (φ : ℕ → El) → Visited R ℓ Q (suc (w₁ + w₂)) φ → LeafRows R w₁ w₂ φ) where
-      abbrev pub Found : (ℕ → El) → (ℕ → El) → Type 0
-      Found f₁ f₂ = (φ : ℕ → El) × (v : Visited R ℓ Q (suc (w₁ + w₂)) φ) × Leaf R ℓ w₁ w₂ Q (stop φ v) f₁ f₂
-
-      pub first-chart : (f₁ f₂ : ℕ → El) → Found f₁ f₂ ↔ (Plain R ℓ w₁ w₂ Q f₁ f₂ × (f₁ 0 ≢ 𝟘))
+      pub first-chart : (f₁ f₂ : ℕ → El) → Found R ℓ w₁ w₂ Q stop f₁ f₂ ↔ (Plain R ℓ w₁ w₂ Q f₁ f₂ × (f₁ 0 ≢ 𝟘))
       first-chart f₁ f₂ = (
         λ t. (leaf-root (stop (t .0) (t .1)) f₁ f₂ (t .2), leaf-constant (stop (t .0) (t .1)) f₁ f₂ (t .2)),
         λ x. (
@@ -124,12 +121,7 @@ module _ (𝓕 : Field) where
   -- The second chart: y and z change places, and the first digit is 0
   module _ (ℓ w₁ w₂ : ℕ) (Q : ℕ → ℕ → El) where
     module _ (stop : (φ : ℕ → El) → Visited R ℓ (turned ℓ Q) (suc (w₂ + w₁)) φ → φ 0 ≡ 𝟘 → LeafRows R w₂ w₁ φ) where
-      abbrev pub Found₂ : (ℕ → El) → (ℕ → El) → Type 0
-      Found₂ f₁ f₂ =
-          (φ : ℕ → El) × (v : Visited R ℓ (turned ℓ Q) (suc (w₂ + w₁)) φ) × (z : φ 0 ≡ 𝟘)
-          × Leaf R ℓ w₂ w₁ (turned ℓ Q) (stop φ v z) f₂ f₁
-
-      pub second-chart : (f₁ f₂ : ℕ → El) → Found₂ f₁ f₂ ↔ (Plain R ℓ w₁ w₂ Q f₁ f₂ × (f₁ 0 ≡ 𝟘))
+      pub second-chart : (f₁ f₂ : ℕ → El) → FoundTurned R ℓ w₁ w₂ Q stop f₁ f₂ ↔ (Plain R ℓ w₁ w₂ Q f₁ f₂ × (f₁ 0 ≡ 𝟘))
       second-chart f₁ f₂ = (λ t. there (t .0) (t .1) (t .2) (t .3), λ x. back (x .0) (x .1))
         where
           there : (φ : ℕ → El) (v : Visited R ℓ (turned ℓ Q) (suc (w₂ + w₁)) φ) (z : φ 0 ≡ 𝟘)
@@ -161,7 +153,7 @@ module _ (𝓕 : Field) where
                   ap (λ (f : ℕ → El). f 0) (x .second) ∙ const-conv R (x .factor) a 0 ∙ ap (λ y. x .factor ⊗ y) a-none
                   ∙ Laws.mul-zero R (x .factor)
 
-          back : Plain R ℓ w₁ w₂ Q f₁ f₂ → f₁ 0 ≡ 𝟘 → Found₂ f₁ f₂
+          back : Plain R ℓ w₁ w₂ Q f₁ f₂ → f₁ 0 ≡ 𝟘 → FoundTurned R ℓ w₁ w₂ Q stop f₁ f₂
           back x z = (φ, v, first, leaf-of ℓ w₂ w₁ (turned ℓ Q) f₂ f₁ h plain (stop φ v first))
             where
               h : f₂ 0 ≢ 𝟘
@@ -193,7 +185,7 @@ module _ (𝓕 : Field) where
       -- Both charts: the normal ones of the pairs that the walks find are the roots
       module _ (stop₁ : (φ : ℕ → El) → Visited R ℓ Q (suc (w₁ + w₂)) φ → LeafRows R w₁ w₂ φ) where
         pub roots-exact : (f₁ f₂ : ℕ → El)
-            → (Normal R f₁ f₂ × (Found ℓ w₁ w₂ Q stop₁ f₁ f₂ ⊎ Found₂ f₁ f₂)) ↔ Root R ℓ w₁ w₂ Q f₁ f₂
+            → (Normal R f₁ f₂ × (Found R ℓ w₁ w₂ Q stop₁ f₁ f₂ ⊎ FoundTurned R ℓ w₁ w₂ Q stop f₁ f₂)) ↔ Root R ℓ w₁ w₂ Q f₁ f₂
         roots-exact f₁ f₂ = (λ t. there (t .0) (t .1), λ x. (x .normal, back x (𝓕 .equal (f₁ 0) 𝟘)))
           where
             root : Normal R f₁ f₂ → Plain R ℓ w₁ w₂ Q f₁ f₂ → Root R ℓ w₁ w₂ Q f₁ f₂
@@ -206,13 +198,13 @@ module _ (𝓕 : Field) where
                   vanishes = x .vanishes;
                 }
 
-            there : Normal R f₁ f₂ → Found ℓ w₁ w₂ Q stop₁ f₁ f₂ ⊎ Found₂ f₁ f₂ → Root R ℓ w₁ w₂ Q f₁ f₂
+            there : Normal R f₁ f₂ → Found R ℓ w₁ w₂ Q stop₁ f₁ f₂ ⊎ FoundTurned R ℓ w₁ w₂ Q stop f₁ f₂ → Root R ℓ w₁ w₂ Q f₁ f₂
             there m (inl t) = root m (first-chart ℓ w₁ w₂ Q stop₁ f₁ f₂ .0 t .0)
             there m (inr t) = root m (second-chart f₁ f₂ .0 t .0)
 
-            back : Root R ℓ w₁ w₂ Q f₁ f₂ → Dec (f₁ 0 ≡ 𝟘) → Found ℓ w₁ w₂ Q stop₁ f₁ f₂ ⊎ Found₂ f₁ f₂
+            back : Root R ℓ w₁ w₂ Q f₁ f₂ → Dec (f₁ 0 ≡ 𝟘) → Found R ℓ w₁ w₂ Q stop₁ f₁ f₂ ⊎ FoundTurned R ℓ w₁ w₂ Q stop f₁ f₂
             back x d = go d (record { f₁-below = x .f₁-below; f₂-below = x .f₂-below; coprime = x .coprime; vanishes = x .vanishes })
               where
-                go : Dec (f₁ 0 ≡ 𝟘) → Plain R ℓ w₁ w₂ Q f₁ f₂ → Found ℓ w₁ w₂ Q stop₁ f₁ f₂ ⊎ Found₂ f₁ f₂
+                go : Dec (f₁ 0 ≡ 𝟘) → Plain R ℓ w₁ w₂ Q f₁ f₂ → Found R ℓ w₁ w₂ Q stop₁ f₁ f₂ ⊎ FoundTurned R ℓ w₁ w₂ Q stop f₁ f₂
                 go (yes z) y = inr (second-chart f₁ f₂ .1 (y, z))
                 go (no z) y = inl (first-chart ℓ w₁ w₂ Q stop₁ f₁ f₂ .1 (y, z))

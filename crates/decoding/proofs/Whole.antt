@@ -16,9 +16,9 @@ use Rattle.decoding.specs.Code.{Code, syndrome}
 use Rattle.decoding.specs.Words.{Same, Near, Listing}
 use Rattle.decoding.specs.Setting.{Accepted}
 use Rattle.decoding.specs.Pairs.{w₁, w₂, Interpolates, Pairs, Sifted}
-use Rattle.decoding.specs.Walk.{Visited, LeafRows, turned}
+use Rattle.decoding.specs.Walk.{Visited, LeafRows, turned, Found, FoundTurned}
 use Rattle.decoding.specs.Walk.Visited.{start, further}
-use Rattle.decoding.proofs.Walk.{Found, Found₂, roots-exact}
+use Rattle.decoding.proofs.Walk.{roots-exact}
 use Rattle.decoding.proofs.Complete.{complete}
 
 module _ (𝓕 : Field) where
@@ -60,7 +60,7 @@ module _ (𝓕 : Field) where
       abbrev pub Walked : (ℕ → El) → (ℕ → El) → Type 0
       Walked f₁ f₂ =
           Normal R f₁ f₂
-          × (Found 𝓕 ℓ (w₁ τ T) (w₂ τ T) Q stop₁ f₁ f₂ ⊎ Found₂ 𝓕 ℓ (w₁ τ T) (w₂ τ T) Q stop₂ f₁ f₂)
+          × (Found R ℓ (w₁ τ T) (w₂ τ T) Q stop₁ f₁ f₂ ⊎ FoundTurned R ℓ (w₁ τ T) (w₂ τ T) Q stop₂ f₁ f₂)
 
       pub walk-pairs : Pairs 𝓕 C T τ s ℓ Walked
       walk-pairs =

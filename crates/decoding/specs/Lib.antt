@@ -8,3 +8,4 @@ pub mod Setting
 pub mod Sift
 pub mod Pairs
 pub mod Walk
+pub mod Theorems

@@ -43,3 +43,16 @@ pub record Leaf (R : Ring) (ℓ w₁ w₂ : ℕ) (Q : ℕ → ℕ → R .El) {φ
 -- Q with y and z in each other's place
 abbrev pub turned : {A : Type 0} → ℕ → (ℕ → ℕ → A) → ℕ → ℕ → A
 turned ℓ Q t = Q (ℓ - t)
+
+module _ (R : Ring) (ℓ w₁ w₂ : ℕ) (Q : ℕ → ℕ → R .El) where
+  open Ring R using (El, 𝟘)
+
+  -- The first chart: the pairs at the leaves of the walk of w₁ + w₂ + 1 digits, where stop is where Euclid's algorithm stops at each leaf
+  abbrev pub Found : ((φ : ℕ → El) → Visited R ℓ Q (suc (w₁ + w₂)) φ → LeafRows R w₁ w₂ φ) → (ℕ → El) → (ℕ → El) → Type 0
+  Found stop f₁ f₂ = (φ : ℕ → El) × (v : Visited R ℓ Q (suc (w₁ + w₂)) φ) × Leaf R ℓ w₁ w₂ Q (stop φ v) f₁ f₂
+
+  -- The second chart: the same for the turned Q, at the leaves whose first digit is 0
+  abbrev pub FoundTurned : ((φ : ℕ → El) → Visited R ℓ (turned ℓ Q) (suc (w₂ + w₁)) φ → φ 0 ≡ 𝟘 → LeafRows R w₂ w₁ φ)
+      → (ℕ → El) → (ℕ → El) → Type 0
+  FoundTurned stop f₁ f₂ =
+      (φ : ℕ → El) × (v : Visited R ℓ (turned ℓ Q) (suc (w₂ + w₁)) φ) × (z : φ 0 ≡ 𝟘) × Leaf R ℓ w₂ w₁ (turned ℓ Q) (stop φ v z) f₂ f₁
