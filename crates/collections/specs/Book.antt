@@ -1,9 +1,9 @@
 -- The share book: what a collection has to hold and to answer, told by the calls' arguments alone.
--- In order: the book, what a call asks of it, which check refuses first, what an accepted call writes and answers, and one call against the book.
+-- In order: the book, what a call asks of it, which check refuses first, what an accepted call writes and answers, one call against the book, and which books calls lead to.
 use mathlib.Core.Path.{_≡_}
 use mathlib.Core.Bool.{not}
-use mathlib.Core.List.{List, []}
-use Prim.Native.Nat.{ℕ}
+use mathlib.Core.List.{List, [], _∷_}
+use Prim.Native.Nat.{ℕ, _<_}
 use lib.Dec.{leb, eqb}
 use lib.ListN.{length, getD, set, replicate}
 use Rattle.std.specs.declared.option.Option.{Option}
@@ -107,3 +107,21 @@ leftBy (Some f) after before = before
 pub record Right (q : ℕ) (before : Book) (act : Act) (answer : Said) (after : Book) : Type 0 where
   pub answers : answer ≡ saidBy (check q before act) (accepts before act)
   pub leaves : after ≡ leftBy (check q before act) (writes before act) before
+
+-- A book that calls lead to: what opening was given passes its checks, there is a place for each point, and each value is an element.
+abbrev pub Fits : ℕ → Place → Type 0
+Fits q Empty = Unit {0}
+Fits q (Filled v) = v < q
+
+abbrev pub AllFit : ℕ → List Place → Type 0
+AllFit q [] = Unit {0}
+AllFit q (x ∷ ps) = Fits q x × AllFit q ps
+
+pub record FairPage (q : ℕ) (g : Given) (ps : List Place) : Type 0 where
+  pub passed : first-fault q g ≡ None
+  pub count : length ps ≡ length (g .points)
+  pub elements : AllFit q ps
+
+abbrev pub Fair : ℕ → Book → Type 0
+Fair q unopened = Unit {0}
+Fair q (opened g ps) = FairPage q g ps

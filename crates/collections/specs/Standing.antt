@@ -18,7 +18,7 @@ use Rattle.collections.specs.declared.Opened.{Opened}
 use Rattle.collections.specs.declared.State.{State}
 use Rattle.collections.specs.declared.State.the-variants.{Blank as Unopened, Open}
 use Rattle.collections.specs.declared.Kept.{Kept}
-use Rattle.collections.specs.Book.{Book, unopened, opened, placesIn, placeCheck, placeIn, Act, Said, done, told, refused, Right}
+use Rattle.collections.specs.Book.{Book, unopened, opened, placesIn, placeCheck, placeIn, Act, Said, done, told, refused, Right, Fair}
 
 -- what opening was given
 abbrev pub givenOf : Opened → Given
@@ -38,12 +38,13 @@ abbrev pub standing : Kept → Book
 standing k = page (k .state) (k .places .at)
 
 -- an open collection is over the field of q elements
-abbrev pub SoundState : ℕ → State → Type 0
-SoundState q Unopened = Unit {0}
-SoundState q (Open o) = o .code .q ≡ q
+abbrev pub Over : ℕ → State → Type 0
+Over q Unopened = Unit {0}
+Over q (Open o) = o .code .q ≡ q
 
+-- what every collection over a field of q elements keeps from its first call on
 abbrev pub Sound : ℕ → Kept → Type 0
-Sound q k = SoundState q (k .state)
+Sound q k = Over q (k .state) × Fair q (standing k)
 
 -- the share of a place, if it has one
 abbrev pub share : Place → Option ℕ

@@ -13,7 +13,7 @@ use faults::CollectionFault;
 use faults::CollectionFromCode;
 
 impl Kept {
-    pub fn new() -> Self
+    pub(crate) fn new() -> Self
         ensures { λ r. ⌜ standing r ≡ unopened ⌝ }
     {
         Kept {
@@ -23,7 +23,7 @@ impl Kept {
     }
 
     // What the collection was opened with.
-    pub fn opened(&self) -> Result<&Opened, CollectionFault>
+    pub(crate) fn opened(&self) -> Result<&Opened, CollectionFault>
         ensures { λ r. ⌜ TellsOpened (now (self .entry)) r ⌝ }
     {
         match &self.state {
@@ -33,7 +33,7 @@ impl Kept {
     }
 
     // What a place has.
-    pub fn read(&self, place: usize) -> Result<Place, CollectionFault>
+    pub(crate) fn read(&self, place: usize) -> Result<Place, CollectionFault>
         ensures { λ r. ⌜ TellsPlace (standing (now (self .entry))) place r ⌝ }
     {
         let count = self.opened()?.code.count();
@@ -43,7 +43,7 @@ impl Kept {
         Ok(self.places.get(place))
     }
 
-    pub fn open(&mut self, q: u16, o: Opening<'_>) -> Result<(), CollectionFault>
+    pub(crate) fn open(&mut self, q: u16, o: Opening<'_>) -> Result<(), CollectionFault>
         ensures { λ r. ⌜ Judged q (now (self .entry)) (opening (given (o .entry))) r (now (self .exit)) ⌝ }
     {
         if let State::Open(_) = self.state {
@@ -60,7 +60,7 @@ impl Kept {
         Ok(())
     }
 
-    pub fn enter(&mut self, q: u16, place: usize, value: u16) -> Result<(), CollectionFault>
+    pub(crate) fn enter(&mut self, q: u16, place: usize, value: u16) -> Result<(), CollectionFault>
         ensures { λ r. ⌜ Judged q (now (self .entry)) (entering place value) r (now (self .exit)) ⌝ }
     {
         let found = self.read(place)?;
@@ -78,7 +78,7 @@ impl Kept {
         Ok(())
     }
 
-    pub fn withdraw(&mut self, place: usize) -> Result<(), CollectionFault>
+    pub(crate) fn withdraw(&mut self, place: usize) -> Result<(), CollectionFault>
         ensures { λ r. ⌜ ((q : ℕ) → Judged q (now (self .entry)) (withdrawing place) r (now (self .exit))) ⌝ }
     {
         match self.read(place)? {

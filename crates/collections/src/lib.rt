@@ -29,7 +29,7 @@ pub struct Places {
 
 impl Places {
     // All places empty.
-    pub fn new() -> Self
+    fn new() -> Self
         ensures { λ r. ⌜ r .at ≡ replicate 32 Empty ⌝ }
     {
         Places {
@@ -38,7 +38,7 @@ impl Places {
     }
 
     // Writes what place i has.
-    pub fn put(&mut self, i: usize, x: Place)
+    fn put(&mut self, i: usize, x: Place)
         requires { ⌜ i < 32 ⌝ }
         ensures { λ _. ⌜ now (self .exit) .at ≡ set (now (self .entry) .at) i x ⌝ }
     {
@@ -46,7 +46,7 @@ impl Places {
     }
 
     // What place i has.
-    pub fn get(&self, i: usize) -> Place
+    fn get(&self, i: usize) -> Place
         requires { ⌜ i < 32 ⌝ }
         ensures { λ r. ⌜ r ≡ getD (now (self .entry) .at) i Empty ⌝ }
     {

@@ -1,13 +1,18 @@
 use mathlib.Core.Path.{refl}
 use Rattle.codes.specs.Opening.{given}
+use Rattle.collections.specs.declared.Opened.{Opened}
+use Rattle.collections.specs.Book.{opening, done, Right}
+use Rattle.collections.specs.declared.State.the-variants.{Open}
+use Rattle.collections.specs.Standing.{page, standing}
 use Rattle.collections.proofs.Booked.{opens}
+use Rattle.collections.proofs.Fairness.{fair-kept}
 use Rattle.collections.proofs.Kept.open.Needs as need
 
 pub returns : need.returns
 returns c =
     let checked = c .in-Continue-code .ensures tt in
-    record {
-      right = opens (c .args .q) (c .args .self .now .state) (c .args .self .now .places .at) (given (c .args .o)) record { code = c .in-Continue-code .code; setting = c .args .o .setting } (c .new .result .at) (c .in-rest .is) (checked .fault) (checked .holds) refl (c .new .ensures);
-      same = tt;
-      sound = λ _. checked .holds .field;
-    }
+    let o : Opened = record { code = c .in-Continue-code .code; setting = c .args .o .setting } in
+    let g = given (c .args .o) in
+    let right : Right (c .args .q) (standing (c .args .self .now)) (opening g) done (page (Open o) (c .new .result .at)) =
+    opens (c .args .q) (c .args .self .now .state) (c .args .self .now .places .at) g o (c .new .result .at) (c .in-rest .is) (checked .fault) (checked .holds) refl (c .new .ensures) in
+    record { right = right; same = tt; sound = λ h. (checked .holds .field, fair-kept (c .args .q) _ (opening g) done _ right (h .1)) }
