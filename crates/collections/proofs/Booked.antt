@@ -56,8 +56,7 @@ reads k o p x e h g =
     let few = o .code .places .1 in
     let full = k .places .full in
     let long : p < length (take n at) = simp length-take (omega arith) in
-    let on : standing k ≡ opened (givenOf o) (take n at) = ap (λ (s : State). page s at) e in
-    (
+    let on : standing k ≡ opened (givenOf o) (take n at) = ap (λ (s : State). page s at) e in (
       ap (λ (b : Book). placeCheck b p) on ∙ ap (λ (t : Bool). when t (NoSuchPlace p)) (lt-leb (length (take n at)) p long),
       g ∙ sym (getD-take n at p Empty h) ∙ sym (ap (λ (b : Book). placeIn b p) on),
     )

@@ -3,10 +3,9 @@ ghost use Prim.Native.Nat.{_<_};
 ghost use lib.ListN.{length, getD, set, replicate};
 ghost use Rattle.collections.specs.declared.Place.the-variants.{Empty};
 
+pub mod calls;
 mod keeping;
 pub mod source;
-
-pub mod calls;
 
 use codes::Code;
 use codes::Setting;
