@@ -1,20 +1,14 @@
 -- Polynomials with some bound: their sums and products; over a field, whether one is zero, that a factor other than zero is cancelled, and
 -- that the factors of 1 are the constants other than zero.
-use mathlib.Core.Path.{_≡_, refl, sym, _∙_, ap, ap₂, fun-ext, subst}
-use mathlib.Core.List.{List, [], _∷_}
+use mathlib.Core.Path.{_≡_, refl, _∙_, ap, fun-ext}
 use mathlib.Core.Logic.{_≢_, _⊎_, inl, inr}
-use Prim.Native.Nat.{ℕ, zero, suc, _+_, _-_, _≤_, _<_}
-use native.Mathlib.Nat.{add-zero, zero-add, suc-add, add-suc}
-use native.Mathlib.Decide.{decLt}
+use Prim.Native.Nat.{ℕ, zero, suc, _+_, _<_}
 use native.Mathlib.Omega.{arith}
 use Rattle.algebra.specs.Ring.{Ring}
-use Rattle.algebra.specs.Field.{Field}
-use Rattle.algebra.specs.Poly.{conv, padd, pneg, pzero, const, tail, cons, Below, Bounded, Degree, drop, mono}
-use Rattle.algebra.specs.Sums.{pow}
-use Rattle.algebra.specs.PolyRing.{Poly, zero-conv, const-conv}
 use Rattle.algebra.specs.Solve.{ring}
-use Rattle.algebra.specs.PolyForms.{forms}
-use Rattle.algebra.specs.RingLaws as L
+use Rattle.algebra.specs.Field.{Field}
+use Rattle.algebra.specs.Poly.{conv, padd, pneg, pzero, const, Below, Bounded, Degree, mono}
+use Rattle.algebra.specs.PolyRing.{Poly}
 use Rattle.algebra.proofs.Eval.{below-add, below-neg, below-const, below-conv}
 use Rattle.algebra.proofs.Monomials.{mono-below}
 use Rattle.algebra.proofs.Degrees.{unit-degree}
@@ -42,14 +36,6 @@ module _ (R : Ring) where
 
   pub bounded-conv : {p q : ℕ → El} → Bounded R p → Bounded R q → Bounded R (conv R p q)
   bounded-conv {p} {q} (n, hp) (m, hq) = (n + m, λ i k. below-conv R n m p q hp hq i (omega arith))
-
-  pub bounded-pow : {p : ℕ → El} → Bounded R p → (k : ℕ) → Bounded R (pow (Poly R) p k)
-  unfolding pow
-  bounded-pow {p} h zero = bounded-const 𝟙
-  bounded-pow {p} h (suc k) = bounded-conv h (bounded-pow h k)
-
-  pub bounded-drop : (n : ℕ) {p : ℕ → El} → Bounded R p → Bounded R (drop n p)
-  bounded-drop n {p} (m, h) = (m, λ i k. h (n + i) (omega arith))
 
   pub bounded-mono : (n : ℕ) → Bounded R (mono R n)
   bounded-mono n = (suc n, mono-below R n)

@@ -1,27 +1,27 @@
 -- Coprime polynomials, in this order: in any ring the order of the two, 1, products and signs; over a field a polynomial and x - a, the product
 -- ∏ (x - α h), a power of x; multiples; pairs in the same proportion, which are equal where both are normalised.
 use mathlib.Core.Path.{_≡_, refl, sym, _∙_, ap, ap₂, fun-ext, subst, subst₂}
-use mathlib.Core.List.{List, [], _∷_}
+use mathlib.Core.List.{[], _∷_}
 use mathlib.Core.Bool.{Bool, true, false, cond}
-use mathlib.Core.Logic.{_≢_, _⊎_, inl, inr}
-use Prim.Native.Nat.{ℕ, zero, suc, _+_, _<_}
+use mathlib.Core.Logic.{_≢_, inl, inr}
+use Prim.Native.Nat.{ℕ, zero, suc, _<_}
 use native.Mathlib.Decide.{decLt}
 use native.Mathlib.Omega.{arith}
 use Rattle.algebra.specs.Ring.{Ring}
+use Rattle.algebra.specs.RingLaws as L
+use Rattle.algebra.specs.Solve.{ring}
 use Rattle.algebra.specs.Field.{Field}
 use Rattle.algebra.specs.Sums.{count, prod}
 use Rattle.algebra.specs.Poly.{conv, padd, pneg, pzero, const, lin, mono, at, Below, Bounded, Degree}
 use Rattle.algebra.specs.PolyRing.{Poly, const-conv}
+use Rattle.algebra.specs.PolyForms.{forms}
 use Rattle.algebra.specs.Division.{quot}
 use Rattle.algebra.specs.Lagrange.{locator}
 use Rattle.algebra.specs.Coprime.{Coprime, Normal}
-use Rattle.algebra.specs.Solve.{ring}
-use Rattle.algebra.specs.PolyForms.{forms}
-use Rattle.algebra.specs.RingLaws as L
 use Rattle.algebra.proofs.Eval.{below-const, below-weaken, ev-suc}
 use Rattle.algebra.proofs.Roots.{lin-below, lin-conv, divide, quot-below}
 use Rattle.algebra.proofs.Shift.{const-hom}
-use Rattle.algebra.proofs.PolySums.{zero-coefficient, const-coefficient}
+use Rattle.algebra.proofs.PolySums.{const-coefficient}
 use Rattle.algebra.proofs.Degrees.{unit-degree}
 use Rattle.algebra.proofs.Bounded.{bounded-zero, bounded-const, bounded-add, bounded-neg, bounded-conv, bounded-mono, unit-const}
 use Rattle.algebra.proofs.Products.{locator-below}

@@ -1,17 +1,17 @@
 -- Degrees.
-use mathlib.Core.Path.{_≡_, refl, sym, _∙_, ap, ap₂, subst}
+use mathlib.Core.Path.{_≡_, sym, _∙_, ap, subst}
 use mathlib.Core.Logic.{_≢_, _⊎_, inl, inr}
-use Prim.Native.Nat.{ℕ, zero, suc, _+_, _-_, _≤_, _<_}
+use Prim.Native.Nat.{ℕ, zero, suc, _+_, _<_}
 use native.Mathlib.Omega.{arith}
-use native.Mathlib.Decide.{decLt, decLe}
+use native.Mathlib.Decide.{decLt}
 use Rattle.algebra.specs.Ring.{Ring}
-use Rattle.algebra.specs.Field.{Field}
-use Rattle.algebra.specs.Poly.{conv, padd, pneg, pzero, const, ev, Below, Degree, mono}
-use Rattle.algebra.specs.PolyRing.{Poly, const-conv}
 use Rattle.algebra.specs.RingLaws as L
+use Rattle.algebra.specs.Field.{Field}
+use Rattle.algebra.specs.Poly.{padd, pneg, pzero, const, Below, Degree, mono}
+use Rattle.algebra.specs.PolyRing.{Poly}
+use Rattle.algebra.specs.Division.{size}
 use Rattle.algebra.proofs.Eval.{below-const, below-add, below-neg, below-conv, lead-conv}
 use Rattle.algebra.proofs.Roots.{degree}
-use Rattle.algebra.specs.Division.{size}
 use Rattle.algebra.proofs.FieldLaws.{mul-nonzero, neg-nonzero}
 use Rattle.algebra.proofs.PolySums.{zero-coefficient, const-coefficient}
 use Rattle.algebra.proofs.Monomials.{mono-below, mono-lead}
@@ -55,9 +55,6 @@ module _ (𝓕 : Field) where
   -- the degree is below every bound
   pub degree-less : (d n : ℕ) (p : ℕ → El) → Degree R d p → Below R n p → d < n
   degree-less d n p hd h = elim (decLt d n) [ yes l ↦ l | no l ↦ absurd (hd .lead (h d (omega arith))) ]
-
-  pub degree-nonzero : (d : ℕ) (p : ℕ → El) → Degree R d p → p ≢ pzero R
-  degree-nonzero d p hd e = hd .lead (ap (λ (f : ℕ → El). f d) e ∙ unfold pzero in refl)
 
   pub size-below : (n : ℕ) (p : ℕ → El) → Below R n p → Below R (size 𝓕 n p) p
   unfolding size

@@ -1,20 +1,20 @@
 -- Division of polynomials.
-use mathlib.Core.Path.{_≡_, refl, sym, _∙_, ap, ap₂, subst}
-use mathlib.Core.List.{List, [], _∷_}
+use mathlib.Core.Path.{_≡_, refl, sym, _∙_, ap, ap₂}
+use mathlib.Core.List.{[], _∷_}
 use mathlib.Core.Logic.{_≢_, _⊎_, inl, inr}
-use Prim.Native.Nat.{ℕ, zero, suc, _+_, _-_, _≤_, _<_}
+use Prim.Native.Nat.{ℕ, zero, suc, _+_, _-_, _<_}
 use native.Mathlib.Omega.{arith}
 use native.Mathlib.Decide.{decLt}
 use Rattle.algebra.specs.Ring.{Ring}
-use Rattle.algebra.specs.Field.{Field}
-use Rattle.algebra.specs.Poly.{conv, padd, pneg, pzero, const, ev, Below, Degree, mono}
-use Rattle.algebra.specs.PolyRing.{Poly, const-conv}
-use Rattle.algebra.specs.Solve.{ring}
-use Rattle.algebra.specs.PolyForms.{forms}
 use Rattle.algebra.specs.RingLaws as L
-use Rattle.algebra.proofs.Eval.{below-add, below-neg, below-weaken, below-conv, lead-conv}
-use Rattle.algebra.proofs.Roots.{degree}
+use Rattle.algebra.specs.Solve.{ring}
+use Rattle.algebra.specs.Field.{Field}
+use Rattle.algebra.specs.Poly.{padd, pneg, pzero, const, Below, Degree, mono}
+use Rattle.algebra.specs.PolyRing.{Poly, const-conv}
+use Rattle.algebra.specs.PolyForms.{forms}
 use Rattle.algebra.specs.Division.{reduce, quotient, remainder}
+use Rattle.algebra.proofs.Eval.{below-add, below-neg, below-conv, lead-conv}
+use Rattle.algebra.proofs.Roots.{degree}
 use Rattle.algebra.proofs.FieldLaws.{mul-nonzero, inv-nonzero}
 use Rattle.algebra.proofs.PolySums.{times-below}
 use Rattle.algebra.proofs.Monomials.{mono-below, mono-lead, mono-conv}

@@ -1,5 +1,5 @@
 -- Euclid's algorithm to its end, for any limit at which it stops.
-use mathlib.Core.Path.{_≡_, refl, sym, _∙_, ap, subst}
+use mathlib.Core.Path.{_≡_, refl}
 use Prim.Native.Nat.{ℕ, zero, suc, _+_, _-_, _≤_, _<_}
 use native.Mathlib.Omega.{arith}
 use native.Mathlib.Decide.{decLe}
@@ -19,34 +19,16 @@ module _ (𝓕 : Field) (limit : ℕ → ℕ) (D : ℕ) (S : ℕ → 𝓕 .ring 
   abbrev From : ℕ → Type 0
   From k = (p l l′ : ℕ) (P L : Row R) → Rows R D S P L p l → Below R (suc l′) (P .b) → limit l′ ≤ p → p ≤ k → Stopped R limit D S
 
+  stop : (p l l′ : ℕ) (P L : Row R) → Rows R D S P L p l → Below R (suc l′) (P .b) → limit l′ ≤ p → Below R (limit l) (L .a)
+      → Stopped R limit D S
+  stop p l l′ P L I h c low = record { P = P; L = L; p = p; l = l; rows = I; low = low; l′ = l′; b-below = h; high = c }
+
   run : (fuel : ℕ) → From fuel
-  run zero p l l′ P L I h c k =
-      record {
-        P = P;
-        L = L;
-        p = p;
-        l = l;
-        rows = I;
-        low = λ i t. I .a-falls i (omega arith);
-        l′ = l′;
-        b-below = h;
-        high = c;
-      }
+  run zero p l l′ P L I h c k = stop p l l′ P L I h c (λ i t. I .a-falls i (omega arith))
   run (suc fuel) p l l′ P L I h c k = go (size 𝓕 p (L .a)) refl (decLe (size 𝓕 p (L .a)) (limit l)) (run fuel)
     where
       go : (n : ℕ) → size 𝓕 p (L .a) ≡ n → Dec (size 𝓕 p (L .a) ≤ limit l) → From fuel → Stopped R limit D S
-      go n e (yes d) more =
-          record {
-            P = P;
-            L = L;
-            p = p;
-            l = l;
-            rows = I;
-            low = λ i t. size-below 𝓕 p (L .a) (I .a-falls) i (omega arith);
-            l′ = l′;
-            b-below = h;
-            high = c;
-          }
+      go n e (yes d) more = stop p l l′ P L I h c (λ i t. size-below 𝓕 p (L .a) (I .a-falls) i (omega arith))
       go zero e (no d) more = absurd (omega arith)
       go (suc m) e (no d) more =
           let hm : Degree R m (L .a) = size-degree 𝓕 p m (L .a) (I .a-falls) e in

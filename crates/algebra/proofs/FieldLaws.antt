@@ -1,12 +1,11 @@
 -- What is not zero in a field.
-use mathlib.Core.Path.{_≡_, refl, sym, _∙_, ap}
-use mathlib.Core.List.{List, [], _∷_}
+use mathlib.Core.Path.{_≡_, sym, _∙_, ap}
 use mathlib.Core.Logic.{_≢_}
 use Prim.Native.Nat.{ℕ, zero, suc}
 use Rattle.algebra.specs.Ring.{Ring}
+use Rattle.algebra.specs.RingLaws as L
 use Rattle.algebra.specs.Field.{Field}
 use Rattle.algebra.specs.Sums.{pow}
-use Rattle.algebra.specs.RingLaws as L
 use Rattle.algebra.proofs.Roots.{no-divisors}
 
 module _ (𝓕 : Field) where

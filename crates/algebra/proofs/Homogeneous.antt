@@ -1,24 +1,24 @@
 -- Homogeneous forms Q (y, z) = Σ_t Q_t y ^ t z ^ (ℓ - t): y and z change places, a common factor, Horner's rule; division by a y - b z; and
 -- that a form of degree ℓ other than zero has ℓ roots at most, no two of them in the same proportion.
-use mathlib.Core.Path.{_≡_, refl, sym, _∙_, ap, ap₂, fun-ext, subst}
-use mathlib.Core.List.{List, [], _∷_}
+use mathlib.Core.Path.{_≡_, sym, _∙_, ap, ap₂}
+use mathlib.Core.List.{[], _∷_}
 use mathlib.Core.Logic.{_≢_, _⊎_, inl, inr}
-use Prim.Native.Nat.{ℕ, zero, suc, _+_, _-_, _≤_, _<_}
+use Prim.Native.Nat.{ℕ, zero, suc, _-_, _≤_, _<_}
 use native.Mathlib.Decide.{decLt}
 use native.Mathlib.Omega.{arith}
 use Rattle.algebra.specs.Ring.{Ring}
+use Rattle.algebra.specs.RingLaws as L
+use Rattle.algebra.specs.Solve.{ring}
 use Rattle.algebra.specs.Field.{Field}
 use Rattle.algebra.specs.Sums.{sum, pow}
-use Rattle.algebra.specs.Poly.{conv, padd, pneg, pzero, const, ev, tail, cons, Below, Bounded}
+use Rattle.algebra.specs.Poly.{conv, pzero, ev, tail, cons, Bounded}
 use Rattle.algebra.specs.PolyRing.{Poly}
-use Rattle.algebra.specs.Solve.{ring}
 use Rattle.algebra.specs.PolyForms.{forms}
-use Rattle.algebra.specs.RingLaws as L
+use Rattle.algebra.specs.Taylor.{form, hom}
 use Rattle.algebra.proofs.Sums.{sum-cong, sum-head, sum-scale, sum-reverse}
 use Rattle.algebra.proofs.Taylor.{pow-to}
 use Rattle.algebra.proofs.Eval.{ev-sum}
 use Rattle.algebra.proofs.Roots.{id-hom}
-use Rattle.algebra.specs.Taylor.{form, hom}
 use Rattle.algebra.proofs.Bounded.{bounded-zero, bounded-const, bounded-add, bounded-neg, bounded-conv, decide-zero, cancel, one≢zero-poly}
 
 module _ (S : Ring) where

@@ -1,24 +1,23 @@
 -- Lagrange's interpolation.
-use mathlib.Core.Path.{_≡_, refl, sym, _∙_, ap, ap₂, fun-ext, subst}
-use mathlib.Core.List.{List, [], _∷_}
-use mathlib.Core.Bool.{Bool, true, false, cond}
+use mathlib.Core.Path.{_≡_, refl, sym, _∙_, ap, subst}
+use mathlib.Core.List.{[], _∷_}
 use mathlib.Core.Logic.{_≢_}
-use Prim.Native.Nat.{ℕ, zero, suc, _+_, _-_, _≤_, _<_}
+use Prim.Native.Nat.{ℕ, zero, suc, _<_}
 use native.Mathlib.Omega.{arith}
 use native.Mathlib.Decide.{decLt}
-use Rattle.algebra.specs.Ring.{Ring, Hom}
+use Rattle.algebra.specs.Ring.{Ring}
+use Rattle.algebra.specs.RingLaws as L
+use Rattle.algebra.specs.Solve.{ring}
 use Rattle.algebra.specs.Field.{Field}
 use Rattle.algebra.specs.Sums.{sum, all, but, count, prod, Distinct}
-use Rattle.algebra.specs.Poly.{conv, padd, pneg, pzero, const, lin, ev, Below, at}
+use Rattle.algebra.specs.Poly.{conv, padd, pneg, const, Below, at}
 use Rattle.algebra.specs.PolyRing.{Poly, const-conv}
-use Rattle.algebra.specs.Solve.{ring}
 use Rattle.algebra.specs.PolyForms.{forms}
-use Rattle.algebra.specs.RingLaws as L
+use Rattle.algebra.specs.Lagrange.{locator, barycentric}
 use Rattle.algebra.proofs.Sums.{sum-cong}
 use Rattle.algebra.proofs.Eval.{below-add, below-neg, below-weaken, ev-add}
 use Rattle.algebra.proofs.Roots.{id-hom, roots}
-use Rattle.algebra.specs.Lagrange.{locator, barycentric}
-use Rattle.algebra.proofs.Products.{but-same, but-other, but-marked, count-but, prod-zero, prod-nonzero, locator-below, locator-monic, locator-at}
+use Rattle.algebra.proofs.Products.{but-other, but-marked, count-but, prod-zero, prod-nonzero, locator-below, locator-monic, locator-at}
 use Rattle.algebra.proofs.PolySums.{sum-single, sum-coefficient, sum-below, sum-at, times-below, times-at, neg-at}
 
 pub count-all : (n : ℕ) → count n all ≡ n

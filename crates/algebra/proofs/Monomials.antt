@@ -1,16 +1,16 @@
 -- The powers of x: degree, order, value, products x ^ m p and what is left when x ^ m is divided off; and the sum of a ^ (n - 1 - i) x ^ i.
-use mathlib.Core.Path.{_≡_, refl, sym, _∙_, ap, ap₂, fun-ext, subst}
-use mathlib.Core.List.{List, [], _∷_}
+use mathlib.Core.Path.{_≡_, refl, sym, _∙_, ap, fun-ext}
+use mathlib.Core.List.{[], _∷_}
 use Prim.Native.Nat.{ℕ, zero, suc, _+_, _-_, _*_, _≤_, _<_}
-use native.Mathlib.Nat.{add-zero, zero-add, suc-add, add-suc}
+use native.Mathlib.Nat.{zero-add, suc-add}
 use native.Mathlib.Omega.{arith}
 use Rattle.algebra.specs.Ring.{Ring}
-use Rattle.algebra.specs.Sums.{sum, pow}
-use Rattle.algebra.specs.Poly.{conv, padd, pneg, pzero, const, lin, ev, tail, cons, Below, Order, at, mono, geo, drop, up}
-use Rattle.algebra.specs.PolyRing.{Poly, const-conv, conv-comm}
-use Rattle.algebra.specs.Solve.{ring}
-use Rattle.algebra.specs.PolyForms.{forms}
 use Rattle.algebra.specs.RingLaws as L
+use Rattle.algebra.specs.Solve.{ring}
+use Rattle.algebra.specs.Sums.{pow}
+use Rattle.algebra.specs.Poly.{conv, padd, pneg, pzero, const, lin, tail, cons, Below, Order, at, mono, geo, drop, up}
+use Rattle.algebra.specs.PolyRing.{Poly, const-conv}
+use Rattle.algebra.specs.PolyForms.{forms}
 use Rattle.algebra.proofs.Eval.{below-const, below-cons, ev-suc}
 use Rattle.algebra.proofs.Roots.{id-hom, lin-conv}
 use Rattle.algebra.proofs.Shift.{ev-const}

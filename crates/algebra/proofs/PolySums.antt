@@ -1,16 +1,16 @@
 -- Finite sums of polynomials: their coefficients, degrees and values.
-use mathlib.Core.Path.{_≡_, refl, sym, _∙_, ap, ap₂, fun-ext, subst}
+use mathlib.Core.Path.{_≡_, refl, sym, _∙_, ap, ap₂, fun-ext}
 use mathlib.Core.Logic.{_≢_}
-use Prim.Native.Nat.{ℕ, zero, suc, _+_, _-_, _≤_, _<_}
+use Prim.Native.Nat.{ℕ, zero, suc, _≤_, _<_}
 use native.Mathlib.Omega.{arith}
 use native.Mathlib.Decide.{ℕ-discrete}
 use Rattle.algebra.specs.Ring.{Ring}
-use Rattle.algebra.specs.Sums.{sum}
-use Rattle.algebra.specs.Poly.{conv, padd, pneg, pzero, const, scale, ev, Below, Order, at}
-use Rattle.algebra.specs.PolyRing.{Poly, const-conv}
 use Rattle.algebra.specs.RingLaws as L
+use Rattle.algebra.specs.Sums.{sum}
+use Rattle.algebra.specs.Poly.{conv, padd, pneg, pzero, const, scale, Below, at}
+use Rattle.algebra.specs.PolyRing.{Poly, const-conv}
 use Rattle.algebra.proofs.Sums.{sum-zero}
-use Rattle.algebra.proofs.Eval.{below-add, ev-add, ev-zero, ev-scale}
+use Rattle.algebra.proofs.Eval.{ev-add, ev-zero, ev-scale}
 use Rattle.algebra.proofs.Roots.{id-hom}
 
 module _ (R : Ring) where

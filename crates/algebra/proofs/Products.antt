@@ -1,24 +1,23 @@
 -- Products over marked places, and the polynomials ∏ (x - α h).
 use mathlib.Core.Path.{_≡_, refl, sym, _∙_, ap, ap₂, subst}
-use mathlib.Core.List.{List, [], _∷_}
+use mathlib.Core.List.{[], _∷_}
 use mathlib.Core.Bool.{Bool, true, false, cond}
 use mathlib.Core.Logic.{_≢_}
-use Prim.Native.Nat.{ℕ, zero, suc, _+_, _-_, _≤_, _<_}
+use Prim.Native.Nat.{ℕ, zero, suc, _+_, _≤_, _<_}
 use native.Mathlib.Omega.{arith}
 use native.Mathlib.Decide.{ℕ-discrete}
 use lib.Dec.{T, eqb, eqb→eq, eqb-refl}
-use Rattle.algebra.specs.Ring.{Ring, Hom}
-use Rattle.algebra.specs.Field.{Field}
-use Rattle.algebra.specs.Sums.{sum, all, but, count, prod}
-use Rattle.algebra.specs.Poly.{conv, padd, pzero, const, lin, ev, Below, at}
-use Rattle.algebra.specs.PolyRing.{Poly}
-use Rattle.algebra.specs.Solve.{ring}
-use Rattle.algebra.specs.PolyForms.{forms}
+use Rattle.algebra.specs.Ring.{Ring}
 use Rattle.algebra.specs.RingLaws as L
-use Rattle.algebra.proofs.Eval.{below-weaken, below-const, below-conv, lead-conv, ev-more, ev-conv}
+use Rattle.algebra.specs.Solve.{ring}
+use Rattle.algebra.specs.Field.{Field}
+use Rattle.algebra.specs.Sums.{but, count, prod}
+use Rattle.algebra.specs.Poly.{const, lin, Below, at}
+use Rattle.algebra.specs.PolyForms.{forms}
+use Rattle.algebra.specs.Lagrange.{locator}
+use Rattle.algebra.proofs.Eval.{below-const, below-conv, lead-conv, ev-more, ev-conv}
 use Rattle.algebra.proofs.Roots.{id-hom, lin-below, ev-lin, no-divisors}
 use Rattle.algebra.proofs.Shift.{ev-const}
-use Rattle.algebra.specs.Lagrange.{locator}
 
 pub but-same : (j : ℕ) (b : ℕ → Bool) → but j b j ≡ false
 but-same j b = go (eqb j j) (eqb-refl j)

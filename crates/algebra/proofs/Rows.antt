@@ -1,26 +1,23 @@
 -- Euclid's rows, and every pair (g, h) with g + h S divisible by x ^ D as a combination of two of them.
-use mathlib.Core.Path.{_≡_, refl, sym, _∙_, ap, ap₂, fun-ext, subst}
-use mathlib.Core.List.{List, [], _∷_}
-use mathlib.Core.Logic.{_≢_, _⊎_, inl, inr}
-use Prim.Native.Nat.{ℕ, zero, suc, _+_, _-_, _≤_, _<_}
+use mathlib.Core.Path.{_≡_, refl, sym, _∙_, ap, ap₂, subst}
+use mathlib.Core.List.{[], _∷_}
+use Prim.Native.Nat.{ℕ, suc, _+_, _-_, _≤_, _<_}
 use native.Mathlib.Omega.{arith}
-use native.Mathlib.Decide.{decLt, decLe}
-use Rattle.algebra.specs.Ring.{Ring, Hom}
-use Rattle.algebra.specs.Field.{Field}
-use Rattle.algebra.specs.Sums.{pow}
-use Rattle.algebra.specs.Poly.{conv, padd, pneg, pzero, const, ev, Below, Order, drop, mono, Degree}
-use Rattle.algebra.specs.PolyRing.{Poly, const-conv}
-use Rattle.algebra.specs.Solve.{ring}
-use Rattle.algebra.specs.PolyForms.{forms}
+use Rattle.algebra.specs.Ring.{Ring}
 use Rattle.algebra.specs.RingLaws as Laws
-use Rattle.algebra.proofs.Eval.{below-add, below-neg, below-const, below-weaken, below-conv, order-add, order-neg, order-mul}
-use Rattle.algebra.proofs.Shift.{const-hom}
-use Rattle.algebra.specs.Division.{quotient, remainder, size}
-use Rattle.algebra.specs.Euclid.{Row, Rows, top, second, ratio, next, part-before, part-last, Combination, Stopped}
+use Rattle.algebra.specs.Solve.{ring}
+use Rattle.algebra.specs.Field.{Field}
+use Rattle.algebra.specs.Poly.{pneg, pzero, const, Below, Order, drop, mono, Degree}
+use Rattle.algebra.specs.PolyRing.{Poly}
+use Rattle.algebra.specs.PolyForms.{forms}
+use Rattle.algebra.specs.Division.{remainder}
+use Rattle.algebra.specs.Euclid.{Row, Rows, top, second, ratio, next, part-before, part-last, Combination}
+use Rattle.algebra.proofs.Eval.{below-add, below-neg, below-const, below-conv, order-add, order-neg, order-mul}
+use Rattle.algebra.proofs.Shift.{const-hom, hom-neg}
 use Rattle.algebra.proofs.FieldLaws.{neg-nonzero}
 use Rattle.algebra.proofs.PolySums.{times-below}
-use Rattle.algebra.proofs.Monomials.{mono-below, mono-order, mono-cancel, mono-drop, drop-below}
-use Rattle.algebra.proofs.Degrees.{degree-mul, degree-add, degree-neg, degree-mono, degree-less, size-below, size-degree}
+use Rattle.algebra.proofs.Monomials.{mono-order, mono-cancel, mono-drop, drop-below}
+use Rattle.algebra.proofs.Degrees.{degree-mul, degree-add, degree-neg, degree-mono, degree-less}
 use Rattle.algebra.proofs.Division.{divided, quotient-degree, remainder-below}
 
 module _ (R : Ring) where
@@ -30,9 +27,7 @@ module _ (R : Ring) where
   open Ring R using (El, 𝟘, 𝟙, _⊕_, ⊖_, _⊗_)
 
   pub const-neg : (c : El) → pneg R (const R c) ≡ const R (⊖ c)
-  const-neg c =
-      sym (Laws.neg-unique (Poly R) (const R c) (const R (⊖ c))
-      (sym (const-hom R .of-add c (⊖ c)) ∙ ap (const R) (R .add-neg c) ∙ const-hom R .of-zero))
+  const-neg c = sym (hom-neg R (Poly R) (const R) (const-hom R) c)
 
 module _ (𝓕 : Field) where
   infixl 60 _⊕_
@@ -170,25 +165,22 @@ module _ (𝓕 : Field) where
           ∙ order-add R D (h ⊠ (P .a ⊞ P .b ⊠ S)) (⊟ (P .b ⊠ (g ⊞ h ⊠ S))) (order-mul R D h (P .a ⊞ P .b ⊠ S) (I .before))
           (order-neg R D (P .b ⊠ (g ⊞ h ⊠ S)) (order-mul R D (P .b) (g ⊞ h ⊠ S) divides)) i k)
 
-      -- (g, h) = f₁ P + f₂ L
-      pub cramer : Combination R P L g h (f₁ g h) (f₂ g h)
+      -- one entry of (g, h) = f₁ P + f₂ L
+      entry : (v c d : ℕ → El)
+          → (P .a ⊠ L .b ⊞ ⊟ (L .a ⊠ P .b)) ⊠ v ≡ (g ⊠ L .b ⊞ ⊟ (h ⊠ L .a)) ⊠ c ⊞ (P .a ⊠ h ⊞ ⊟ (P .b ⊠ g)) ⊠ d
+          → v ≡ f₁ g h ⊠ c ⊞ f₂ g h ⊠ d
       unfolding X
+      entry v c d e =
+          cancel v (f₁ g h ⊠ c ⊞ f₂ g h ⊠ d)
+          (ap (λ z. z ⊠ v) (sym (I .determinant)) ∙ e
+          ∙ ap₂ (λ y z. y ⊠ c ⊞ z ⊠ d) (sym cramer-before) (sym cramer-last)
+          ∙ ring (Poly R) (X ∷ f₁ g h ∷ f₂ g h ∷ c ∷ d ∷ []) {y = X ⊠ (f₁ g h ⊠ c ⊞ f₂ g h ⊠ d)} (search forms depth 20) tt)
+
+      pub cramer : Combination R P L g h (f₁ g h) (f₂ g h)
       cramer =
           record {
-            first =
-                cancel g (f₁ g h ⊠ P .a ⊞ f₂ g h ⊠ L .a)
-                (ap (λ z. z ⊠ g) (sym (I .determinant))
-                ∙ ring (Poly R) (g ∷ h ∷ P .a ∷ P .b ∷ L .a ∷ L .b ∷ [])
-                {y = (g ⊠ L .b ⊞ ⊟ (h ⊠ L .a)) ⊠ P .a ⊞ (P .a ⊠ h ⊞ ⊟ (P .b ⊠ g)) ⊠ L .a} (search forms depth 20) tt
-                ∙ ap₂ (λ y z. y ⊠ P .a ⊞ z ⊠ L .a) (sym cramer-before) (sym cramer-last)
-                ∙ ring (Poly R) (X ∷ f₁ g h ∷ f₂ g h ∷ P .a ∷ L .a ∷ []) {y = X ⊠ (f₁ g h ⊠ P .a ⊞ f₂ g h ⊠ L .a)} (search forms depth 20) tt);
-            second =
-                cancel h (f₁ g h ⊠ P .b ⊞ f₂ g h ⊠ L .b)
-                (ap (λ z. z ⊠ h) (sym (I .determinant))
-                ∙ ring (Poly R) (g ∷ h ∷ P .a ∷ P .b ∷ L .a ∷ L .b ∷ [])
-                {y = (g ⊠ L .b ⊞ ⊟ (h ⊠ L .a)) ⊠ P .b ⊞ (P .a ⊠ h ⊞ ⊟ (P .b ⊠ g)) ⊠ L .b} (search forms depth 20) tt
-                ∙ ap₂ (λ y z. y ⊠ P .b ⊞ z ⊠ L .b) (sym cramer-before) (sym cramer-last)
-                ∙ ring (Poly R) (X ∷ f₁ g h ∷ f₂ g h ∷ P .b ∷ L .b ∷ []) {y = X ⊠ (f₁ g h ⊠ P .b ⊞ f₂ g h ⊠ L .b)} (search forms depth 20) tt);
+            first = entry g (P .a) (L .a) (ring (Poly R) (g ∷ h ∷ P .a ∷ P .b ∷ L .a ∷ L .b ∷ []) (search forms depth 20) tt);
+            second = entry h (P .b) (L .b) (ring (Poly R) (g ∷ h ∷ P .a ∷ P .b ∷ L .a ∷ L .b ∷ []) (search forms depth 20) tt);
           }
 
     -- the degrees of f₁ and f₂, where g has A coefficients and h has B

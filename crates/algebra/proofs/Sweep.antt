@@ -1,19 +1,19 @@
 -- The coefficients of Q (u + φ) when φ grows, computed in place by repeated division by u - ψ.
-use mathlib.Core.Path.{_≡_, refl, sym, _∙_, ap, ap₂, fun-ext, subst}
-use mathlib.Core.List.{List, [], _∷_}
-use Prim.Native.Nat.{ℕ, zero, suc, _+_, _-_, _≤_, _<_}
+use mathlib.Core.Path.{_≡_, refl, sym, _∙_, ap, ap₂, fun-ext}
+use mathlib.Core.List.{[], _∷_}
+use Prim.Native.Nat.{ℕ, zero, suc, _+_, _<_}
 use native.Mathlib.Omega.{arith}
 use Rattle.algebra.specs.Ring.{Ring}
-use Rattle.algebra.specs.Poly.{conv, padd, pneg, pzero, const, lin, mono, up, ev, tail, cons, Below}
-use Rattle.algebra.specs.Division.{quot}
-use Rattle.algebra.specs.PolyRing.{Poly}
-use Rattle.algebra.specs.Taylor.{shift, taylor}
-use Rattle.algebra.specs.Solve.{ring}
-use Rattle.algebra.specs.PolyForms.{forms}
 use Rattle.algebra.specs.RingLaws as L
-use Rattle.algebra.proofs.Eval.{below-const, below-conv, ev-add, ev-more}
+use Rattle.algebra.specs.Solve.{ring}
+use Rattle.algebra.specs.Poly.{conv, padd, pneg, const, lin, mono, up, ev, tail, cons, Below}
+use Rattle.algebra.specs.PolyRing.{Poly}
+use Rattle.algebra.specs.PolyForms.{forms}
+use Rattle.algebra.specs.Division.{quot}
+use Rattle.algebra.specs.Taylor.{shift, taylor}
+use Rattle.algebra.proofs.Eval.{below-const, ev-add, ev-more}
 use Rattle.algebra.proofs.Roots.{divide, quot-below, lin-below}
-use Rattle.algebra.proofs.Shift.{const-hom, shift-conv, ev-shift, ev-lin, ev-const}
+use Rattle.algebra.proofs.Shift.{const-hom, shift-conv, ev-lin, ev-const}
 use Rattle.algebra.proofs.Taylor.{is-shift}
 use Rattle.algebra.proofs.Monomials.{mono-up}
 

@@ -3,16 +3,15 @@ use mathlib.Core.Path.{_≡_, refl, sym, _∙_, ap, ap₂, fun-ext}
 use mathlib.Core.List.{[], _∷_}
 use mathlib.Core.Logic.{_≢_}
 use Prim.Native.Nat.{ℕ, zero, suc, _-_, _≤_, _<_}
-use native.Mathlib.Decide.{ℕ-discrete}
 use native.Mathlib.Omega.{arith}
 use Rattle.algebra.specs.Ring.{Ring, Hom}
-use Rattle.algebra.specs.Sums.{sum, pow}
-use Rattle.algebra.specs.Poly.{conv, padd, pzero, const, lin, ev}
-use Rattle.algebra.specs.PolyRing.{Poly, const-conv}
-use Rattle.algebra.specs.Taylor.{shift, tay, taylor, form}
-use Rattle.algebra.specs.Solve.{ring}
-use Rattle.algebra.specs.PolyForms.{forms}
 use Rattle.algebra.specs.RingLaws as L
+use Rattle.algebra.specs.Solve.{ring}
+use Rattle.algebra.specs.Sums.{sum, pow}
+use Rattle.algebra.specs.Poly.{conv, padd, const, lin, ev}
+use Rattle.algebra.specs.PolyRing.{Poly, const-conv}
+use Rattle.algebra.specs.PolyForms.{forms}
+use Rattle.algebra.specs.Taylor.{shift, tay, taylor, form}
 use Rattle.algebra.proofs.Sums.{sum-cong, sum-zero, sum-add, sum-scale, sum-swap, sum-head}
 use Rattle.algebra.proofs.Eval.{ev-sum}
 use Rattle.algebra.proofs.PolySums.{sum-coefficient}
@@ -158,27 +157,13 @@ module _ (R : Ring) where
   lin-sum φ ψ =
       fun-ext (elim [ zero ↦ ring R (φ ∷ ψ ∷ []) (search forms depth 20) tt | suc i ↦ R .add-zero _ ])
 
-  -- a shift after a shift, and none
+  -- a shift after a shift
   pub taylor-add : (n : ℕ) (φ ψ : El) (Q : ℕ → El) → taylor R n ψ (taylor R n φ Q) ≡ taylor R n (φ ⊕ ψ) Q
   taylor-add n φ ψ Q =
       ap (taylor R n ψ) (is-shift n φ Q) ∙ is-shift n ψ (shift R φ n Q)
       ∙ ev-shift R (Poly R) (const R) (const-hom R) φ (lin R (⊖ ψ)) n Q
       ∙ ap (λ z. ev (Poly R) (const R) z n Q) (lin-sum φ ψ)
       ∙ sym (is-shift n (φ ⊕ ψ) Q)
-
-  pub taylor-none : (n : ℕ) (Q : ℕ → El) (b : ℕ) → b < n → taylor R n 𝟘 Q b ≡ Q b
-  unfolding taylor sum
-  taylor-none zero Q b h = absurd (let z : b < 0 = h in omega arith)
-  taylor-none (suc n) Q b h = go (ℕ-discrete n b) (λ k. taylor-none n Q b k)
-    where
-      go : Dec (n ≡ b) → (b < n → taylor R n 𝟘 Q b ≡ Q b) → sum R n (λ t. tay R 𝟘 t b ⊗ Q t) ⊕ tay R 𝟘 n b ⊗ Q n ≡ Q b
-      go (yes q) ih =
-          ap₂ _⊕_ (sum-zero R n (λ t. tay R 𝟘 t b ⊗ Q t) (λ t k. ap (λ z. z ⊗ Q t) (tay-other t b (omega arith)) ∙ L.zero-mul R _))
-          (ap₂ (λ y z. tay R 𝟘 y b ⊗ Q z) q q ∙ ap (λ z. z ⊗ Q b) (tay-same b))
-          ∙ ring R (Q b ∷ []) (search forms depth 20) tt
-      go (no q) ih =
-          ap₂ (λ y z. y ⊕ z ⊗ Q n) (ih (omega arith)) (tay-other n b q)
-          ∙ ring R (Q b ∷ Q n ∷ []) (search forms depth 20) tt
 
 -- tay goes through a homomorphism
 pub tay-hom : (R S : Ring) (f : R .El → S .El) → Hom R S f → (φ : R .El) (j b : ℕ) → tay S (f φ) j b ≡ f (tay R φ j b)

@@ -1,6 +1,5 @@
 -- Division of polynomials: by x - a in any ring (quot), and over a field by a polynomial g of the degree m (reduce, quotient, remainder);
 -- size, which finds the degree of a polynomial that has n coefficients at most.
-use mathlib.Core.Path.{_≡_}
 use Prim.Native.Nat.{ℕ, zero, suc, _+_}
 use Rattle.algebra.specs.Ring.{Ring}
 use Rattle.algebra.specs.Field.{Field}

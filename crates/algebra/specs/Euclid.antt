@@ -5,12 +5,11 @@
 -- row with deg a at most w.
 use mathlib.Core.Path.{_≡_}
 use mathlib.Core.Logic.{_≢_}
-use Prim.Native.Nat.{ℕ, zero, suc, _+_, _-_, _≤_, _<_}
+use Prim.Native.Nat.{ℕ, suc, _+_, _-_, _≤_}
 use Rattle.algebra.specs.Ring.{Ring}
 use Rattle.algebra.specs.Field.{Field}
 use Rattle.algebra.specs.Poly.{conv, padd, pneg, pzero, const, Below, Order, drop, mono, Degree}
 use Rattle.algebra.specs.PolyRing.{Poly}
-use Rattle.algebra.specs.Coprime.{Coprime}
 use Rattle.algebra.specs.Division.{quotient}
 
 pub record Row (R : Ring) : Type 0 where

@@ -1,6 +1,6 @@
 -- Polynomials by their values at n points: ∏ (x - α h) over some of the places, and the weights of Lagrange's interpolation.
-use Prim.Native.Nat.{ℕ}
 use mathlib.Core.Bool.{Bool}
+use Prim.Native.Nat.{ℕ}
 use Rattle.algebra.specs.Ring.{Ring}
 use Rattle.algebra.specs.Field.{Field}
 use Rattle.algebra.specs.Sums.{all, but, prod}

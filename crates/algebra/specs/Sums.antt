@@ -1,6 +1,5 @@
 -- Finite sums, products and counts, over the first n places or over those of them that are marked: sum and pow in any ring, total for
 -- numbers; marks of places (all, but), count and prod over them; and two properties of the first n values of a function (Distinct, NonZero).
-use mathlib.Core.Path.{_≡_}
 use mathlib.Core.Bool.{Bool, true, false, cond}
 use mathlib.Core.Logic.{_≢_}
 use Prim.Native.Nat.{ℕ, zero, suc, _+_, _<_}

@@ -1,25 +1,25 @@
--- There are ℓ codewords within τ at most.
-use mathlib.Core.Path.{_≡_, refl, sym, _∙_, ap, subst, subst₂}
-use mathlib.Core.Logic.{_↔_, _≢_}
-use Prim.Native.Nat.{ℕ, suc, _+_, _-_, _*_, _≤_, _<_, min}
+-- There are ℓ codewords within τ at most: a form of degree ℓ has ℓ normalised roots at most, and distinct codewords have distinct roots. Within
+-- half the minimum distance there is one at most.
+use mathlib.Core.Path.{_≡_, _∙_, ap, subst₂}
+use mathlib.Core.Logic.{_≢_}
+use Prim.Native.Nat.{ℕ, suc, _+_, _*_, _≤_, _<_, min}
 use native.Mathlib.Omega.{arith}
 use native.Mathlib.Decide.{decLe}
 use Rattle.algebra.specs.Ring.{Ring}
 use Rattle.algebra.specs.Field.{Field}
-use Rattle.algebra.specs.Poly.{conv, pzero, const, Below}
-use Rattle.algebra.specs.PolyRing.{Poly}
-use Rattle.decoding.specs.Code.{Code, syndrome}
+use Rattle.algebra.specs.Poly.{Below}
 use Rattle.algebra.specs.Euclid.{Stopped}
-use Rattle.decoding.proofs.KeyEquation.{syndrome-below}
 use Rattle.algebra.proofs.Euclid.{euclid}
 use Rattle.algebra.proofs.PolySums.{zero-coefficient}
 use Rattle.algebra.proofs.Homogeneous.{few-roots}
 use Rattle.algebra.proofs.Coprime.{normal-unique}
+use Rattle.decoding.specs.Code.{Code, syndrome}
 use Rattle.decoding.specs.Setting.{minimum-distance, Accepted}
 use Rattle.decoding.specs.Words.{Same, Near, Listing}
 use Rattle.decoding.specs.Sift.{located, Passes}
 use Rattle.decoding.specs.Rational.{Root}
 use Rattle.decoding.specs.Pairs.{w₁, w₂, Interpolates}
+use Rattle.decoding.proofs.KeyEquation.{syndrome-below}
 use Rattle.decoding.proofs.Sift.{passes-once}
 use Rattle.decoding.proofs.Yield.{located-below, single-below, yield-some, yield-single, yield-root}
 use Rattle.decoding.proofs.Complete.{left-over, interpolant}
@@ -73,11 +73,9 @@ module _ (𝓕 : Field) (C : Code 𝓕) {k τ s ℓ : ℕ} (A : Accepted (C .n) 
       root : (i : ℕ) → Root R ℓ (w₁ τ T) (w₂ τ T) Q (pair i .0) (pair i .1)
       root i = pair i .2
 
-      -- distinct words have pairs that are not proportional
-      not-proportional : (i j : ℕ) → i < j → j < suc ℓ → conv R (pair i .0) (pair j .1) ≢ conv R (pair i .1) (pair j .0)
-      not-proportional i j u v e =
-          let w = normal-unique 𝓕 (pair i .0) (pair i .1) (pair j .0) (pair j .1) (_, root i .f₁-below) (_, root i .f₂-below)
-          (_, root j .f₁-below) (_, root j .f₂-below) (root i .coprime) (root j .coprime) e (root i .normal) (root j .normal) in
+      -- distinct words have distinct pairs
+      distinct : (i j : ℕ) → i < j → j < suc ℓ → (pair i .0 ≡ pair j .0) × (pair i .1 ≡ pair j .1) → ⊥
+      distinct i j u v w =
           apart i j u (omega arith)
           (passes-once 𝓕 C k τ r τ (left-over 𝓕 C A sum r T)
           (located-below 𝓕 C k τ sum r T hl hp (pair j .0) (pair j .1) (root j .f₁-below) (root j .f₂-below))
@@ -86,13 +84,10 @@ module _ (𝓕 : Field) (C : Code 𝓕) {k τ s ℓ : ℕ} (A : Accepted (C .n) 
 
       many-roots : ⊥
       many-roots =
-          q .nonzero
-          (ap (λ (f : ℕ → El). f (q .exponent))
-          (few-roots 𝓕 ℓ (suc ℓ) Q (λ i. pair i .0) (λ i. pair i .1) (omega arith)
-          (λ t u. (s * τ, λ m v. q .degrees t m u (let x : s * τ ≤ m = v in omega arith)))
-          (λ i u. (_, root i .f₁-below)) (λ i u. (_, root i .f₂-below)) not-proportional
-          (λ i u. root i .vanishes) (q .position) (q .within))
-          ∙ zero-coefficient R (q .exponent))
+          let few : suc ℓ ≤ ℓ =
+          roots-at-most 𝓕 ℓ (w₁ τ T) (w₂ τ T) (s * τ) Q (λ t u m v. q .degrees t m u (let x : s * τ ≤ m = v in omega arith))
+          (q .position) (q .exponent) (q .within) (q .nonzero) (suc ℓ) (λ i. pair i .0) (λ i. pair i .1) (λ i u. root i) distinct in
+          omega arith
 
     none : Dec (τ ≤ T .p) → ⊥
     none (yes h) = one-pair h

@@ -1,5 +1,5 @@
 -- The words that are sifted are the codewords within τ, all of them and no other.
-use mathlib.Core.Path.{_≡_, refl, sym, _∙_, ap, subst, subst₂}
+use mathlib.Core.Path.{_≡_, refl, sym, subst₂}
 use mathlib.Core.Logic.{_↔_}
 use Prim.Native.Nat.{ℕ, suc, _+_, _-_, _*_, _≤_, _<_}
 use native.Mathlib.Omega.{arith}
@@ -7,15 +7,14 @@ use native.Mathlib.Decide.{decLe}
 use Rattle.algebra.specs.Ring.{Ring}
 use Rattle.algebra.specs.Field.{Field}
 use Rattle.algebra.specs.Poly.{pzero, const, Below}
-use Rattle.decoding.specs.Code.{Code, syndrome}
 use Rattle.algebra.specs.Euclid.{Stopped}
+use Rattle.decoding.specs.Code.{Code, syndrome}
 use Rattle.decoding.specs.Multiplicity.{slope}
-use Rattle.decoding.proofs.Interpolant.{interpolant-exists}
 use Rattle.decoding.specs.Setting.{minimum-distance, Accepted}
 use Rattle.decoding.specs.Words.{Same, Near}
 use Rattle.decoding.specs.Sift.{located, Passes}
-use Rattle.decoding.specs.Rational.{Root}
-use Rattle.decoding.specs.Pairs.{w₁, w₂, y-at, z-at, Interpolates, Among, Pairs, Sifted}
+use Rattle.decoding.specs.Pairs.{y-at, z-at, Interpolates, Among, Pairs, Sifted}
+use Rattle.decoding.proofs.Interpolant.{interpolant-exists}
 use Rattle.decoding.proofs.Setting.{below-distance, weighted}
 use Rattle.decoding.proofs.Sift.{passes-once}
 use Rattle.decoding.proofs.Yield.{located-below, single-below, yield-some, yield-single, yield-root}
@@ -82,23 +81,4 @@ module _ (𝓕 : Field) (C : Code 𝓕) {k τ s ℓ : ℕ} (A : Accepted (C .n) 
             i,
             u,
             subst₂ (λ (x y : ℕ → El). Passes 𝓕 C k τ r (located R (T .P .b) (T .L .b) x y) c) (sym e₁) (sym e₂) (t .passes),
-          )
-
-  -- there is always a G to speak of
-  pub pairs-exist : (G : (ℕ → El) → (ℕ → El) → Type 0) × Pairs 𝓕 C T τ s ℓ G
-  pairs-exist = go (decLe (T .l) τ) (decLe τ (T .p))
-    where
-      go : Dec (T .l ≤ τ) → Dec (τ ≤ T .p) → (G : (ℕ → El) → (ℕ → El) → Type 0) × Pairs 𝓕 C T τ s ℓ G
-      go (no hl) d = (
-        λ f₁ f₂. ⊥,
-        record { none = λ h f₁ f₂ g. g; single = λ h t. absurd (omega arith); roots = λ h t. absurd (omega arith) },
-      )
-      go (yes hl) (yes h) = (
-        λ f₁ f₂. (f₁ ≡ pzero R) × (f₂ ≡ const R 𝟙),
-        record { none = λ t f₁ f₂ g. absurd (omega arith); single = λ t u f₁ f₂. (λ g. g, λ g. g); roots = λ t u. absurd (omega arith) },
-      )
-      go (yes hl) (no h) =
-          let (Q, q) = interpolant hl (omega arith) in (
-            Root R ℓ (τ - suc (T .p)) (τ - T .l) Q,
-            record { none = λ t f₁ f₂ g. absurd (omega arith); single = λ t u. absurd (omega arith); roots = λ t u. (Q, q, λ f₁ f₂. (λ g. g, λ g. g)) },
           )

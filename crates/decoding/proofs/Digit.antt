@@ -1,30 +1,29 @@
 -- The digits of the series f₂ / f₁, where f₁ (0) is not zero: they exist one after the other (prefix), and where (f₁, f₂) is a root of a
 -- homogeneous polynomial each is allowed after those before it.
-use mathlib.Core.Path.{_≡_, refl, sym, _∙_, ap, ap₂, fun-ext, subst}
-use mathlib.Core.List.{List, [], _∷_}
-use mathlib.Core.Logic.{_≢_, _⊎_, inl, inr}
-use Prim.Native.Nat.{ℕ, zero, suc, _+_, _-_, _*_, _≤_, _<_}
-use native.Mathlib.Nat.{add-zero, zero-add, suc-add, add-suc}
-use native.Mathlib.Decide.{decLt}
+use mathlib.Core.Path.{_≡_, refl, sym, _∙_, ap, ap₂}
+use mathlib.Core.List.{[], _∷_}
+use mathlib.Core.Logic.{_≢_}
+use Prim.Native.Nat.{ℕ, zero, suc, _-_, _*_, _≤_, _<_}
+use native.Mathlib.Nat.{add-zero}
 use native.Mathlib.Omega.{arith}
 use Rattle.algebra.specs.Ring.{Ring}
+use Rattle.algebra.specs.RingLaws as L
+use Rattle.algebra.specs.Solve.{ring}
 use Rattle.algebra.specs.Field.{Field}
 use Rattle.algebra.specs.Sums.{pow}
-use Rattle.algebra.specs.Poly.{conv, padd, pneg, pzero, const, mono, up, drop, at, Below, Order}
+use Rattle.algebra.specs.Poly.{conv, padd, pneg, pzero, const, mono, up, drop, at, Order}
 use Rattle.algebra.specs.PolyRing.{Poly, const-conv}
-use Rattle.algebra.specs.Taylor.{taylor, form}
-use Rattle.algebra.specs.Solve.{ring}
 use Rattle.algebra.specs.PolyForms.{forms}
-use Rattle.algebra.specs.RingLaws as L
+use Rattle.algebra.specs.Taylor.{taylor, form}
 use Rattle.algebra.proofs.FieldLaws.{pow-nonzero}
 use Rattle.algebra.proofs.Sums.{sum-cong}
-use Rattle.algebra.proofs.Eval.{order-conv, first-conv, below-add}
-use Rattle.algebra.proofs.PolySums.{sum-coefficient, times-below}
+use Rattle.algebra.proofs.Eval.{order-conv, first-conv}
+use Rattle.algebra.proofs.PolySums.{sum-coefficient}
 use Rattle.algebra.proofs.Roots.{no-divisors}
-use Rattle.algebra.proofs.Monomials.{mono-below, mono-order, mono-up, mono-drop, pow-mono}
+use Rattle.algebra.proofs.Monomials.{mono-order, mono-up, mono-drop, pow-mono}
 use Rattle.algebra.proofs.Taylor.{star}
 use Rattle.algebra.proofs.Homogeneous.{pow-mul, form-scaled}
-use Rattle.decoding.specs.Walk.{layer, Allowed}
+use Rattle.decoding.specs.Walk.{Allowed}
 
 module _ (R : Ring) where
   infixl 60 _⊕_
@@ -158,14 +157,6 @@ module _ (𝓕 : Field) where
   unfoldable pub prefix : (ℕ → El) → (ℕ → El) → ℕ → ℕ → El
   prefix f₁ f₂ zero = pzero R
   prefix f₁ f₂ (suc t) = prefix f₁ f₂ t ⊞ const R (next t (prefix f₁ f₂ t) f₁ f₂) ⊠ mono R t
-
-  pub prefix-below : (f₁ f₂ : ℕ → El) (t : ℕ) → Below R t (prefix f₁ f₂ t)
-  unfolding prefix
-  prefix-below f₁ f₂ zero i k = unfold pzero in refl
-  prefix-below f₁ f₂ (suc t) i l =
-      let e : El = next t (prefix f₁ f₂ t) f₁ f₂ in
-      below-add R (suc t) (prefix f₁ f₂ t) (const R e ⊠ mono R t) (λ i k. prefix-below f₁ f₂ t i (omega arith))
-      (times-below R (suc t) e (mono R t) (mono-below R t)) i l
 
   pub prefix-order : (f₁ f₂ : ℕ → El) → f₁ 0 ≢ 𝟘 → (t : ℕ) → Order R t (f₂ ⊞ ⊟ (prefix f₁ f₂ t ⊠ f₁))
   unfolding prefix

@@ -6,8 +6,8 @@ use native.Mathlib.Decide.{ℕ-discrete, decLt}
 use native.Mathlib.Omega.{arith}
 use Rattle.algebra.specs.Ring.{Ring}
 use Rattle.algebra.specs.Field.{Field}
-use Rattle.algebra.specs.Poly.{conv, lin}
 use Rattle.algebra.specs.Sums.{total}
+use Rattle.algebra.specs.Poly.{conv, lin}
 use Rattle.decoding.specs.Koetter.{Problem, Live, value, None, Least, Step, Invariant, Interpolant, Add, Triangle, Upto, steps}
 use Rattle.decoding.proofs.Koetter.{started, weaken, kept-by-step, found, interpolant}
 use Rattle.decoding.proofs.Choose.{none-more, least-pass, least-keep, least-first, least-new}

@@ -4,19 +4,19 @@ use mathlib.Core.List.{[], _∷_}
 use Prim.Native.Nat.{ℕ, suc, _≤_, _<_}
 use native.Mathlib.Omega.{arith}
 use Rattle.algebra.specs.Ring.{Ring}
+use Rattle.algebra.specs.RingLaws as L
+use Rattle.algebra.specs.Solve.{ring}
 use Rattle.algebra.specs.Sums.{sum}
 use Rattle.algebra.specs.Poly.{conv, lin, Below}
-use Rattle.algebra.specs.Taylor.{shift, tay, taylor}
-use Rattle.algebra.specs.Solve.{ring}
 use Rattle.algebra.specs.PolyForms.{forms}
-use Rattle.algebra.specs.RingLaws as L
+use Rattle.algebra.specs.Taylor.{shift, tay, taylor}
 use Rattle.algebra.proofs.Sums.{sum-cong, sum-add, sum-scale}
 use Rattle.algebra.proofs.Eval.{below-conv}
 use Rattle.algebra.proofs.Roots.{lin-below}
 use Rattle.algebra.proofs.Multiple.{shifted-zero, shifted-suc}
-use Rattle.decoding.specs.Multiplicity.{functional}
 use Rattle.algebra.proofs.Taylor.{shift-taylor}
 use Rattle.algebra.proofs.Shifted.{shift-more}
+use Rattle.decoding.specs.Multiplicity.{functional}
 
 module _ (R : Ring) where
   infixl 60 _⊕_
@@ -97,14 +97,3 @@ module _ (R : Ring) where
             (λ t k.
             ap (λ z. c t ⊗ z) (taylor-times-suc β n N (Q t) (h t (omega arith)) l a)
             ∙ ring R (c t ∷ α ∷ β ∷ taylor R N α (Q t) a ∷ taylor R N α (Q t) (suc a) ∷ []) (search forms depth 20) tt)
-
-    -- at α itself
-    module _ (ℓ N : ℕ) (c : ℕ → El) (n : ℕ) (Q : ℕ → ℕ → El) (h : (t : ℕ) → t ≤ ℓ → Below R n (Q t)) (l : n < N) where
-      pub functional-here-zero : functional R ℓ N α c 0 (λ t. conv R (lin R α) (Q t)) ≡ 𝟘
-      functional-here-zero =
-          functional-times-zero ℓ N c α n Q h l ∙ ring R (α ∷ functional R ℓ N α c 0 Q ∷ []) (search forms depth 20) tt
-
-      pub functional-here-suc : (a : ℕ) → functional R ℓ N α c (suc a) (λ t. conv R (lin R α) (Q t)) ≡ functional R ℓ N α c a Q
-      functional-here-suc a =
-          functional-times-suc ℓ N c α n Q h l a
-          ∙ ring R (α ∷ functional R ℓ N α c a Q ∷ functional R ℓ N α c (suc a) Q ∷ []) (search forms depth 20) tt

@@ -5,9 +5,9 @@ use Prim.Native.Nat.{ℕ, suc, _+_, _-_, _*_, _≤_, _<_}
 use native.Mathlib.Omega.{arith}
 use Rattle.algebra.specs.Ring.{Ring}
 use Rattle.algebra.specs.Field.{Field}
+use Rattle.algebra.specs.Sums.{total}
 use Rattle.algebra.specs.Poly.{pzero, ev, Below}
 use Rattle.algebra.specs.PolyRing.{Poly}
-use Rattle.algebra.specs.Sums.{total}
 use Rattle.algebra.specs.Taylor.{form}
 use Rattle.decoding.specs.Multiplicity.{Slope, Multiplicity, slope}
 use Rattle.decoding.specs.Koetter.{Interpolant, homogeneous, Triangle, steps}

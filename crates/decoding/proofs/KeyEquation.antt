@@ -2,36 +2,36 @@
 -- errors; the syndrome of a codeword is zero, so that a syndrome is that of the errors; the equation; locator and evaluator: degrees, values at the
 -- points, coprimality; the solution that each codeword gives.
 use mathlib.Core.Path.{_≡_, refl, sym, _∙_, ap, ap₂, fun-ext, subst}
-use mathlib.Core.List.{List, [], _∷_}
-use mathlib.Core.Bool.{Bool, true, false, cond}
+use mathlib.Core.List.{[], _∷_}
+use mathlib.Core.Bool.{true, false}
 use mathlib.Core.Logic.{_≢_, _⊎_, inl, inr}
 use Prim.Native.Nat.{ℕ, zero, suc, _+_, _-_, _≤_, _<_}
 use native.Mathlib.Omega.{arith}
 use native.Mathlib.Decide.{decLt}
 use lib.Dec.{T}
-use Rattle.algebra.specs.Ring.{Ring, Hom}
-use Rattle.algebra.specs.Field.{Field}
-use Rattle.algebra.specs.Sums.{sum, pow, all, but, count, prod, Distinct, NonZero}
-use Rattle.algebra.specs.Poly.{conv, padd, pneg, pzero, const, lin, ev, Below, Order, at, mono, geo}
-use Rattle.algebra.specs.PolyRing.{Poly, const-conv}
-use Rattle.algebra.specs.Solve.{ring}
-use Rattle.algebra.specs.PolyForms.{forms}
+use Rattle.algebra.specs.Ring.{Ring}
 use Rattle.algebra.specs.RingLaws as Laws
-use Rattle.algebra.proofs.Sums.{sum-cong, sum-zero, sum-add, sum-scale, sum-neg}
-use Rattle.algebra.proofs.Eval.{below-neg, below-weaken, below-conv, order-neg, order-mul, ev-conv, ev-more}
-use Rattle.algebra.proofs.Roots.{id-hom, no-divisors}
-use Rattle.algebra.proofs.Shift.{const-hom}
-use Rattle.algebra.specs.Lagrange.{locator, barycentric}
+use Rattle.algebra.specs.Solve.{ring}
+use Rattle.algebra.specs.Field.{Field}
+use Rattle.algebra.specs.Sums.{sum, pow, but, count, prod, Distinct, NonZero}
+use Rattle.algebra.specs.Poly.{conv, padd, pneg, pzero, const, lin, Below, Order, at, mono, geo}
+use Rattle.algebra.specs.PolyRing.{Poly, const-conv}
+use Rattle.algebra.specs.PolyForms.{forms}
+use Rattle.algebra.specs.Lagrange.{barycentric}
 use Rattle.algebra.specs.Coprime.{Coprime}
-use Rattle.decoding.specs.Words.{error, Codeword}
-use Rattle.decoding.specs.KeyEquation.{Key}
-use Rattle.decoding.specs.Code.{errors, Code, codeword, dual, syndrome, ε, Λ, others, Ω}
+use Rattle.algebra.proofs.Sums.{sum-cong, sum-zero, sum-add, sum-scale, sum-neg}
+use Rattle.algebra.proofs.Eval.{below-neg, below-conv, order-neg, order-mul, ev-conv}
+use Rattle.algebra.proofs.Roots.{id-hom}
+use Rattle.algebra.proofs.Shift.{const-hom}
 use Rattle.algebra.proofs.FieldLaws.{mul-nonzero, unit-nonzero, inv-nonzero, neg-nonzero, pow-nonzero}
-use Rattle.algebra.proofs.Products.{but-same, but-other, but-marked, count-but, prod-but, prod-zero, prod-nonzero, locator-below, locator-monic, locator-at}
+use Rattle.algebra.proofs.Products.{but-other, but-marked, count-but, prod-but, prod-zero, prod-nonzero, locator-below, locator-monic, locator-at}
 use Rattle.algebra.proofs.PolySums.{sum-single, sum-coefficient, sum-below, sum-at, times-below, times-at, neg-at}
 use Rattle.algebra.proofs.Coprime.{coprime-locator}
 use Rattle.algebra.proofs.Lagrange.{apart-sym, weighted-sum-zero, barycentric-inverse}
 use Rattle.algebra.proofs.Monomials.{mono-below, mono-order, mono-at, geo-below, geo-at, geo-times}
+use Rattle.decoding.specs.Words.{error, Codeword}
+use Rattle.decoding.specs.KeyEquation.{Key}
+use Rattle.decoding.specs.Code.{errors, Code, codeword, dual, syndrome, ε, Λ, others, Ω}
 
 module _ (𝓕 : Field) where
   infixl 60 _⊕_

@@ -6,12 +6,12 @@ use Prim.Native.Nat.{ℕ, zero, suc, _+_, _-_, _≤_, _<_}
 use native.Mathlib.Decide.{ℕ-discrete, decLt}
 use native.Mathlib.Omega.{arith}
 use Rattle.algebra.specs.Ring.{Ring}
-use Rattle.algebra.specs.Field.{Field}
-use Rattle.algebra.specs.Poly.{conv, lin, Below}
-use Rattle.algebra.specs.Sums.{total}
-use Rattle.algebra.specs.Solve.{ring}
-use Rattle.algebra.specs.PolyForms.{forms}
 use Rattle.algebra.specs.RingLaws as L
+use Rattle.algebra.specs.Solve.{ring}
+use Rattle.algebra.specs.Field.{Field}
+use Rattle.algebra.specs.Sums.{total}
+use Rattle.algebra.specs.Poly.{conv, lin, Below}
+use Rattle.algebra.specs.PolyForms.{forms}
 use Rattle.algebra.proofs.Roots.{lin-conv, no-divisors}
 use Rattle.decoding.specs.Koetter.{Problem, Live, value, Least, Skip, Pivot, Step, Start, Invariant, Interpolant, Closed, Next, Add, Done, Run}
 use Rattle.decoding.proofs.Functional.{functional-cong, functional-linear, functional-times-zero, functional-times-suc}
@@ -54,11 +54,6 @@ total-bump (suc n) p f g l e h = go (ℕ-discrete n p) (λ u. total-bump n p f g
         let u : total n f ≡ suc (total n g) = ih (omega arith) in
         let v : f n ≡ g n = h n (omega arith) q in
         omega arith
-
-pub closed-add : (D : ℕ → ℕ → ℕ → Type 0) (i a b : ℕ) → Closed D → Next D i a b → Closed (Add D i a b)
-closed-add D i a b closed next i′ a′ b′ (inl d) = inl (closed i′ a′ b′ d)
-closed-add D i a b closed next i′ a′ b′ (inr (p, q, r)) =
-    inl (subst (λ z. D z a′ b′) (sym p) (subst (λ z. D i a′ z) (sym r) (next a′ (sym q))))
 
 module _ (R : Ring) where
   infixl 60 _⊕_

@@ -1,19 +1,18 @@
 -- The digits that a walk takes, by one equation; and a pair comes from one leaf only.
-use mathlib.Core.Path.{_≡_, refl, sym, _∙_, ap, ap₂, fun-ext, subst}
-use mathlib.Core.List.{List, [], _∷_}
+use mathlib.Core.Path.{_≡_, sym, _∙_, ap, ap₂, fun-ext, subst}
+use mathlib.Core.List.{[], _∷_}
 use mathlib.Core.Logic.{_≢_, _↔_}
-use Prim.Native.Nat.{ℕ, zero, suc, _+_, _-_, _*_, _≤_, _<_}
-use native.Mathlib.Nat.{add-zero}
+use Prim.Native.Nat.{ℕ, zero, suc, _+_, _≤_, _<_}
 use native.Mathlib.Omega.{arith}
 use native.Mathlib.Decide.{decLt}
 use Rattle.algebra.specs.Ring.{Ring}
+use Rattle.algebra.specs.RingLaws as Laws
+use Rattle.algebra.specs.Solve.{ring}
 use Rattle.algebra.specs.Field.{Field}
 use Rattle.algebra.specs.Sums.{pow}
-use Rattle.algebra.specs.Poly.{conv, padd, pneg, const, at, Below, Order}
+use Rattle.algebra.specs.Poly.{padd, pneg, const, at, Order}
 use Rattle.algebra.specs.PolyRing.{Poly}
-use Rattle.algebra.specs.Solve.{ring}
 use Rattle.algebra.specs.PolyForms.{forms}
-use Rattle.algebra.specs.RingLaws as Laws
 use Rattle.algebra.proofs.Sums.{sum-zero}
 use Rattle.algebra.proofs.Eval.{ev-sum, order-add, order-neg, order-mul, first-conv}
 use Rattle.algebra.proofs.Roots.{id-hom, no-divisors}

@@ -1,30 +1,29 @@
 -- The pair (f₁, f₂) of two polynomials Λ and Ω with Λ S = Ω modulo x ^ D, by the rows at which Euclid's algorithm stops.
-use mathlib.Core.Path.{_≡_, refl, sym, _∙_, ap, ap₂, fun-ext, subst}
-use mathlib.Core.List.{List, [], _∷_}
+use mathlib.Core.Path.{_≡_, sym, _∙_, ap, ap₂, subst}
+use mathlib.Core.List.{[], _∷_}
 use mathlib.Core.Logic.{_≢_, _⊎_, inl, inr}
-use Prim.Native.Nat.{ℕ, zero, suc, _+_, _-_, _≤_, _<_}
+use Prim.Native.Nat.{ℕ, suc, _+_, _-_, _≤_, _<_}
 use native.Mathlib.Omega.{arith}
 use native.Mathlib.Decide.{decLe}
-use Rattle.algebra.specs.Ring.{Ring, Hom}
-use Rattle.algebra.specs.Field.{Field}
-use Rattle.algebra.specs.Sums.{pow}
-use Rattle.algebra.specs.Poly.{conv, padd, pneg, pzero, const, ev, Below, Order, at, mono, Degree}
-use Rattle.algebra.specs.PolyRing.{Poly, const-conv}
-use Rattle.algebra.specs.Solve.{ring}
-use Rattle.algebra.specs.PolyForms.{forms}
+use Rattle.algebra.specs.Ring.{Ring}
 use Rattle.algebra.specs.RingLaws as Laws
-use Rattle.algebra.proofs.Eval.{below-zero, below-add, below-neg, below-const, below-weaken, below-conv, lead-conv, ev-add, ev-conv, ev-more}
-use Rattle.algebra.proofs.Roots.{id-hom, degree}
+use Rattle.algebra.specs.Solve.{ring}
+use Rattle.algebra.specs.Field.{Field}
+use Rattle.algebra.specs.Poly.{pzero, Below, at, mono, Degree}
+use Rattle.algebra.specs.PolyRing.{Poly}
+use Rattle.algebra.specs.PolyForms.{forms}
 use Rattle.algebra.specs.Coprime.{Coprime}
-use Rattle.algebra.specs.Euclid.{Row, Rows, Combination, Stopped}
-use Rattle.decoding.specs.KeyEquation.{Key, IsPair}
+use Rattle.algebra.specs.Euclid.{Row, Rows, Combination}
+use Rattle.algebra.proofs.Eval.{below-zero, below-neg, below-conv, ev-add, ev-conv, ev-more}
+use Rattle.algebra.proofs.Roots.{id-hom}
 use Rattle.algebra.proofs.FieldLaws.{mul-nonzero, pow-nonzero}
-use Rattle.algebra.proofs.PolySums.{zero-coefficient, const-coefficient, times-at, neg-at}
+use Rattle.algebra.proofs.PolySums.{zero-coefficient, times-at, neg-at}
 use Rattle.algebra.proofs.Monomials.{mono-below, mono-at}
 use Rattle.algebra.proofs.Coprime.{coprime-zero}
 use Rattle.algebra.proofs.Bounded.{bounded-add, bounded-neg, bounded-conv}
-use Rattle.algebra.proofs.Degrees.{degree-of, unit-degree, degree-mul, degree-neg, degree-less}
+use Rattle.algebra.proofs.Degrees.{degree-of, degree-mul, degree-neg, degree-less}
 use Rattle.algebra.proofs.Rows.{f₁, f₂, cramer, f₁-below, f₂-below}
+use Rattle.decoding.specs.KeyEquation.{Key, IsPair}
 
 module _ (𝓕 : Field) where
   infixl 60 _⊕_

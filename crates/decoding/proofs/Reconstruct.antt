@@ -1,19 +1,19 @@
 -- Rational reconstruction: the pairs within bounds whose quotient is a given series, modulo a power of x, are multiples of one row of Euclid's
 -- algorithm on that power and the series; and the entries of that row are coprime.
 use mathlib.Core.Path.{_≡_, sym, _∙_, ap, subst, subst₂}
-use mathlib.Core.List.{List, [], _∷_}
+use mathlib.Core.List.{[], _∷_}
 use mathlib.Core.Logic.{_≢_}
 use Prim.Native.Nat.{ℕ, suc, _+_, _-_, _≤_}
 use native.Mathlib.Omega.{arith}
 use Rattle.algebra.specs.Ring.{Ring}
+use Rattle.algebra.specs.RingLaws as Laws
+use Rattle.algebra.specs.Solve.{ring}
 use Rattle.algebra.specs.Field.{Field}
-use Rattle.algebra.specs.Poly.{conv, padd, pneg, pzero, const, mono, Below, Order, Bounded}
+use Rattle.algebra.specs.Poly.{pzero, const, mono, Below, Order, Bounded}
 use Rattle.algebra.specs.PolyRing.{Poly}
+use Rattle.algebra.specs.PolyForms.{forms}
 use Rattle.algebra.specs.Coprime.{Coprime}
 use Rattle.algebra.specs.Euclid.{Row, Rows, Combination, Stopped}
-use Rattle.algebra.specs.Solve.{ring}
-use Rattle.algebra.specs.PolyForms.{forms}
-use Rattle.algebra.specs.RingLaws as Laws
 use Rattle.algebra.proofs.Eval.{below-zero, below-neg}
 use Rattle.algebra.proofs.Bounded.{bounded-const, bounded-add, bounded-neg, bounded-conv}
 use Rattle.algebra.proofs.Coprime.{const-inverse, coprime-mono, coprime-multiple}

@@ -1,13 +1,13 @@
 -- What an accepted setting gives.
-use mathlib.Core.Path.{_≡_, sym, _∙_, ap, subst}
-use mathlib.Core.Logic.{_⊎_, inl, inr}
+use mathlib.Core.Path.{_≡_, ap}
+use mathlib.Core.Logic.{inl, inr}
 use Prim.Native.Nat.{ℕ, suc, _+_, _-_, _*_, _≤_, _<_}
 use native.Mathlib.Nat.{mul-le-mul-left}
 use native.Mathlib.Decide.{decLt}
 use native.Mathlib.Omega.{arith}
 use Rattle.algebra.specs.Sums.{total}
-use Rattle.decoding.proofs.Count.{room}
 use Rattle.decoding.specs.Setting.{minimum-distance, Reach, Accepted}
+use Rattle.decoding.proofs.Count.{room}
 
 -- the inequality of the second line fails for τ = d + δ, n = d + m, ℓ = s + t
 too-far : (s t d δ m : ℕ)
@@ -69,11 +69,3 @@ module _ {n k τ s ℓ : ℕ} (A : Accepted n k τ s ℓ) where
       → E < total (suc ℓ) (λ j. s * τ - (j * w₂ + (ℓ - j) * w₁))
   counting E w₁ w₂ e c =
       room ℓ w₁ w₂ (s * τ) E (let u : n * (s * suc s) + ℓ * suc ℓ * (w₁ + w₂) < 2 * suc ℓ * (s * τ) = weighted w₁ w₂ e in omega arith)
-
--- some settings: half the distance, and past it
-example-half : Accepted 7 3 2 1 1
-example-half = record { some = omega arith; fewer = omega arith; multiplicity = omega arith; order = omega arith; short = omega arith; work = omega arith; reach = inl (omega arith) }
-
-example-past : Accepted 16 4 7 1 2
-example-past =
-    record { some = omega arith; fewer = omega arith; multiplicity = omega arith; order = omega arith; short = omega arith; work = omega arith; reach = inr (omega arith) }

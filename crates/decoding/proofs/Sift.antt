@@ -1,31 +1,31 @@
 -- The sift is sound, yields one word from a pair at most, and yields a codeword from its pair.
-use mathlib.Core.Path.{_≡_, refl, sym, _∙_, ap, ap₂, subst}
-use mathlib.Core.List.{List, [], _∷_}
+use mathlib.Core.Path.{_≡_, refl, sym, _∙_, ap, subst}
+use mathlib.Core.List.{[], _∷_}
 use mathlib.Core.Bool.{Bool, true, false, cond}
 use mathlib.Core.Logic.{_≢_}
-use Prim.Native.Nat.{ℕ, zero, suc, _+_, _-_, _≤_, _<_}
+use Prim.Native.Nat.{ℕ, suc, _+_, _≤_, _<_}
 use native.Mathlib.Omega.{arith}
 use Rattle.algebra.specs.Ring.{Ring}
-use Rattle.algebra.specs.Field.{Field}
-use Rattle.algebra.specs.Poly.{conv, padd, pneg, pzero, const, Below, at, Degree}
-use Rattle.algebra.specs.PolyRing.{Poly, const-conv}
-use Rattle.algebra.specs.Solve.{ring}
-use Rattle.algebra.specs.PolyForms.{forms}
 use Rattle.algebra.specs.RingLaws as Laws
+use Rattle.algebra.specs.Solve.{ring}
+use Rattle.algebra.specs.Field.{Field}
+use Rattle.algebra.specs.Sums.{count}
+use Rattle.algebra.specs.Poly.{const, Below, at, Degree}
+use Rattle.algebra.specs.PolyRing.{Poly, const-conv}
+use Rattle.algebra.specs.PolyForms.{forms}
+use Rattle.algebra.specs.Euclid.{Row}
 use Rattle.algebra.proofs.Eval.{ev-more}
 use Rattle.algebra.proofs.Roots.{id-hom}
-use Rattle.algebra.specs.Sums.{count}
-use Rattle.decoding.specs.Code.{errors, Code, ε, Λ}
-use Rattle.algebra.specs.Euclid.{Row}
-use Rattle.decoding.specs.KeyEquation.{IsPair}
 use Rattle.algebra.proofs.FieldLaws.{mul-nonzero, neg-nonzero}
 use Rattle.algebra.proofs.PolySums.{times-below, times-at}
-use Rattle.decoding.proofs.KeyEquation.{Λ-below, Λ-monic, Λ-root, Λ-nonzero}
 use Rattle.algebra.proofs.Products.{count-cong}
 use Rattle.algebra.proofs.Degrees.{degree-less}
 use Rattle.algebra.proofs.Rows.{const-neg}
+use Rattle.decoding.specs.Code.{errors, Code, ε, Λ}
+use Rattle.decoding.specs.KeyEquation.{IsPair}
 use Rattle.decoding.specs.Words.{Same, error, Codeword, Near}
 use Rattle.decoding.specs.Sift.{located, zeros, off, Passes}
+use Rattle.decoding.proofs.KeyEquation.{Λ-below, Λ-monic, Λ-root, Λ-nonzero}
 use Rattle.decoding.proofs.Words.{count-cover, distance-errors, near-same, word-fixed, word-fixed-at}
 
 module _ (𝓕 : Field) where
@@ -176,13 +176,3 @@ module _ (𝓕 : Field) where
       pub pair-passes : Passes 𝓕 C k τ r (located R (P .b) (L .b) (const R a ⊠ f₁) (const R a ⊠ f₂)) c
       pair-passes =
           subst (λ (w : ℕ → El). Passes 𝓕 C k τ r w c) (sym (pair-locator c T a)) (passes c near (⊖ a) (neg-nonzero 𝓕 a≢zero))
-
-      -- and no other word does
-      pub pair-yields : k + τ ≤ C .n → (c′ : ℕ → El)
-          → Passes 𝓕 C k τ r (located R (P .b) (L .b) (const R a ⊠ f₁) (const R a ⊠ f₂)) c′ → Same (C .n) c c′
-      pair-yields h c′ s =
-          passes-once τ h
-          (subst (Below R (suc τ)) (sym (pair-locator c T a))
-          (times-below R (suc τ) (⊖ a) (Λ 𝓕 C (error 𝓕 r c))
-          (λ i u. Λ-below 𝓕 C (error 𝓕 r c) i (let v : ε 𝓕 C (error 𝓕 r c) ≤ τ = few-errors c near in omega arith))))
-          pair-passes s

@@ -1,8 +1,7 @@
 -- The theorems of specs/Theorems, from the lemmas of the other files.
-use Prim.Native.Nat.{ℕ, _≤_, _<_}
+use Prim.Native.Nat.{_≤_}
 use native.Mathlib.Omega.{arith}
 use Rattle.algebra.specs.Field.{Field}
-use Rattle.algebra.specs.Poly.{Below}
 use Rattle.algebra.proofs.Euclid.{euclid}
 use Rattle.decoding.specs.Code.{syndrome}
 use Rattle.decoding.specs.Pairs.{w₁, w₂}

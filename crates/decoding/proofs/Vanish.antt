@@ -7,24 +7,24 @@ use native.Mathlib.Decide.{ℕ-discrete, decLe}
 use native.Mathlib.Nat.{mul-le-mul-right}
 use native.Mathlib.Omega.{arith}
 use Rattle.algebra.specs.Ring.{Ring}
+use Rattle.algebra.specs.RingLaws as L
+use Rattle.algebra.specs.Solve.{ring}
 use Rattle.algebra.specs.Field.{Field}
 use Rattle.algebra.specs.Sums.{sum, pow, total}
 use Rattle.algebra.specs.Poly.{conv, padd, pneg, pzero, const, ev, Below, Order}
 use Rattle.algebra.specs.PolyRing.{Poly, const-conv, zero-conv}
-use Rattle.algebra.specs.Taylor.{shift, tay, taylor, form}
-use Rattle.algebra.specs.Solve.{ring}
 use Rattle.algebra.specs.PolyForms.{forms}
-use Rattle.algebra.specs.RingLaws as L
+use Rattle.algebra.specs.Taylor.{shift, tay, taylor, form}
 use Rattle.algebra.proofs.Sums.{sum-cong, sum-zero, sum-reverse}
 use Rattle.algebra.proofs.Eval.{below-zero, below-const, below-conv, order-conv}
 use Rattle.algebra.proofs.Roots.{no-divisors}
 use Rattle.algebra.proofs.Shift.{const-hom}
 use Rattle.algebra.proofs.Multiple.{shift-at-zero, too-many-roots}
-use Rattle.decoding.specs.Multiplicity.{Slope, finite, infinite, expansion, functional, Multiplicity, Through, slope}
 use Rattle.algebra.proofs.Taylor.{star, shift-taylor, tay-hom}
 use Rattle.algebra.proofs.PolySums.{sum-coefficient, sum-below}
 use Rattle.algebra.proofs.Homogeneous.{form-swap}
 use Rattle.algebra.proofs.Shifted.{shifted-of, shifted-at, shifted-form}
+use Rattle.decoding.specs.Multiplicity.{Slope, finite, infinite, expansion, functional, Multiplicity, Through, slope}
 
 module _ (R : Ring) where
   infixl 60 _⊕_
@@ -39,11 +39,6 @@ module _ (R : Ring) where
   unfolding pow
   order-pow g h zero i k = absurd (let z : i < 0 = k in omega arith)
   order-pow g h (suc n) i k = order-conv R 1 n g (pow (Poly R) g n) h (order-pow g h n) i (omega arith)
-
-  below-pow : (d : ℕ) (f : ℕ → El) → Below R (suc d) f → (n : ℕ) → Below R (suc (n * d)) (pow (Poly R) f n)
-  unfolding pow
-  below-pow d f h zero i k = below-const R 𝟙 i (omega arith)
-  below-pow d f h (suc n) i k = below-conv R (suc d) (suc (n * d)) f (pow (Poly R) f n) h (below-pow d f h n) i (omega arith)
 
   -- T_b of order s - b, at a w of order 1
   form-order : (s ℓ : ℕ) (T : ℕ → ℕ → El) (w v : ℕ → El) → ((i b : ℕ) → i + b < s → T b i ≡ 𝟘) → Order R 1 w
@@ -152,19 +147,6 @@ module _ (R : Ring) where
       go (yes u) = ap (λ z. conv R z g i) (below-zero R q (λ j _. hq j (omega arith))) ∙ zero-conv R g i
       go (no u) = below-conv R (B - W) (suc d) q g (λ j v. hq j (omega arith)) hg i (omega arith)
 
-  pub term-below : (ℓ B w₁ w₂ d₁ d₂ m : ℕ) (Q : ℕ → ℕ → El) (f₁ f₂ : ℕ → El) → Below R (suc d₁) f₁ → Below R (suc d₂) f₂
-      → (t : ℕ) → ((i : ℕ) → B ≤ i + (t * w₂ + (ℓ - t) * w₁) → Q t i ≡ 𝟘)
-      → B + (t * d₂ + (ℓ - t) * d₁) ≤ m + (t * w₂ + (ℓ - t) * w₁) → Below R m (term ℓ Q f₁ f₂ t)
-  term-below ℓ B w₁ w₂ d₁ d₂ m Q f₁ f₂ h₁ h₂ t hQ l =
-      product-below B (t * w₂ + (ℓ - t) * w₁) (t * d₂ + (ℓ - t) * d₁) m (Q t) (conv R (pow (Poly R) f₂ t) (pow (Poly R) f₁ (ℓ - t))) hQ
-      (λ i k.
-      below-conv R (suc (t * d₂)) (suc ((ℓ - t) * d₁)) (pow (Poly R) f₂ t) (pow (Poly R) f₁ (ℓ - t)) (below-pow d₂ f₂ h₂ t) (below-pow d₁ f₁ h₁ (ℓ - t)) i
-      (let u : suc (t * d₂ + (ℓ - t) * d₁) ≤ i = k in plain (t * d₂) ((ℓ - t) * d₁) i u))
-      l
-    where
-      plain : (x y i : ℕ) → suc (x + y) ≤ i → suc x + suc y ≤ suc i
-      plain x y i h = omega arith
-
   zero-right : (p q : ℕ → El) → Below R 0 q → (i : ℕ) → conv R p q i ≡ 𝟘
   unfolding pzero
   zero-right p q h i = ap (λ z. conv R p z i) (below-zero R q h) ∙ ap (λ (f : ℕ → El). f i) (L.mul-zero (Poly R) p)
@@ -231,34 +213,13 @@ module _ (𝓕 : Field) where
       vanish i l (yes p) j u = meets R (m i) ℓ n n₁ n₂ (α i) Q f₁ f₂ (σ i) hQ h₁ h₂ (mult i l) (thru i l p) (total k m) short j u
       vanish i l (no p) j u = absurd (let z : j < m i = u in omega arith)
 
-  total-same : (s k : ℕ) → total k (λ _. s) ≡ k * s
-  unfolding total
-  total-same s zero = omega arith
-  total-same s (suc k) = ap (λ (z : ℕ). z + s) (total-same s k) ∙ (let e : k * s + s ≡ suc k * s = omega arith in e)
-
-  -- The same by the degrees: W_t = t w₂ + (ℓ - t) w₁, deg Q_t < B - W_t, deg f₁ ≤ d₁, deg f₂ ≤ d₂, and ε points
-  pub root-by-degrees : (ℓ s ε B w₁ w₂ d₁ d₂ : ℕ) (α y z : ℕ → El) (Q : ℕ → ℕ → El) (f₁ f₂ : ℕ → El)
-      → ((i j : ℕ) → i < j → j < ε → α i ≢ α j)
-      → ((i : ℕ) → i < ε → z i ≡ 𝟘 → y i ≢ 𝟘)
-      → ((t m : ℕ) → t ≤ ℓ → B ≤ m + (t * w₂ + (ℓ - t) * w₁) → Q t m ≡ 𝟘)
-      → Below R (suc d₁) f₁ → Below R (suc d₂) f₂
-      → ((i : ℕ) → i < ε → Multiplicity R s ℓ B (α i) (slope 𝓕 (y i) (z i)) Q)
-      → ((i : ℕ) → i < ε → ev R (λ x. x) (α i) (suc d₁) f₁ ⊗ y i ≡ ev R (λ x. x) (α i) (suc d₂) f₂ ⊗ z i)
-      → ((t : ℕ) → t ≤ ℓ → B + (t * d₂ + (ℓ - t) * d₁) ≤ ε * s + (t * w₂ + (ℓ - t) * w₁))
-      → form (Poly R) ℓ Q f₂ f₁ ≡ pzero R
-  root-by-degrees ℓ s ε B w₁ w₂ d₁ d₂ α y z Q f₁ f₂ apart point hQ h₁ h₂ mult meet enough =
-      root ℓ B (suc d₁) (suc d₂) ε (λ _. s) α (λ i. slope 𝓕 (y i) (z i)) Q f₁ f₂ apart
-      (λ t l m u. hQ t m l (let v : B ≤ m = u in omega arith)) h₁ h₂ mult
-      (λ i l _. through (y i) (z i) (ev R (λ x. x) (α i) (suc d₁) f₁) (ev R (λ x. x) (α i) (suc d₂) f₂) (point i l) (meet i l))
-      (λ t l. term-below R ℓ B w₁ w₂ d₁ d₂ (total ε (λ _. s)) Q f₁ f₂ h₁ h₂ t (λ m u. hQ t m l u) (rw (total-same s ε) (enough t l)))
-
   total-times : (s k : ℕ) (χ : ℕ → ℕ) → total k (λ i. χ i * s) ≡ total k χ * s
   unfolding total
   total-times s zero χ = omega arith
   total-times s (suc k) χ =
       ap (λ (z : ℕ). z + χ k * s) (total-times s k χ) ∙ (let e : total k χ * s + χ k * s ≡ (total k χ + χ k) * s = omega arith in e)
 
-  -- The same for a pair that goes through the points where χ i = 1, and falls short of the weights by h:
+  -- The same by the degrees, for a pair that goes through the points where χ i = 1, and falls short of the weights by h:
   -- deg f₁ ≤ w₁ - h and deg f₂ ≤ w₂ - h (zero where that is negative), where B = s (ε + h), ε = Σ χ i, and s ≤ ℓ
   pub root-of-pair : (ℓ s n h w₁ w₂ : ℕ) (χ : ℕ → ℕ) (α y z : ℕ → El) (Q : ℕ → ℕ → El) (f₁ f₂ : ℕ → El)
       → s ≤ ℓ

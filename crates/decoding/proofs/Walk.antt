@@ -1,28 +1,28 @@
 -- The walks of two charts come to all roots of Q within the bounds, and to no other pair. In this order: the pair of a leaf is a root; the
 -- digits of a root are taken, and its leaf gives the root; the chart of the roots with f₁ (0) ≠ 0, that of the others, and both together.
-use mathlib.Core.Path.{_≡_, refl, sym, _∙_, ap, ap₂, subst, subst₂}
-use mathlib.Core.List.{List, [], _∷_}
+use mathlib.Core.Path.{_≡_, sym, _∙_, ap, ap₂, subst₂}
+use mathlib.Core.List.{[], _∷_}
 use mathlib.Core.Logic.{_≢_, _⊎_, inl, inr, _↔_}
-use Prim.Native.Nat.{ℕ, zero, suc, _+_, _-_, _≤_}
+use Prim.Native.Nat.{ℕ, zero, suc, _+_, _≤_}
 use native.Mathlib.Omega.{arith}
 use Rattle.algebra.specs.Ring.{Ring}
+use Rattle.algebra.specs.RingLaws as Laws
+use Rattle.algebra.specs.Solve.{ring}
 use Rattle.algebra.specs.Field.{Field}
 use Rattle.algebra.specs.Sums.{pow}
-use Rattle.algebra.specs.Poly.{conv, padd, pneg, pzero, const, Below, Order}
+use Rattle.algebra.specs.Poly.{conv, padd, pneg, pzero, const, Below}
 use Rattle.algebra.specs.PolyRing.{Poly, const-conv}
-use Rattle.algebra.specs.Taylor.{form}
-use Rattle.algebra.specs.Coprime.{Coprime, Normal}
-use Rattle.algebra.specs.Solve.{ring}
 use Rattle.algebra.specs.PolyForms.{forms}
-use Rattle.algebra.specs.RingLaws as Laws
-use Rattle.algebra.proofs.FieldLaws.{mul-nonzero, neg-nonzero}
+use Rattle.algebra.specs.Taylor.{form}
+use Rattle.algebra.specs.Coprime.{Normal}
+use Rattle.algebra.proofs.FieldLaws.{mul-nonzero}
 use Rattle.algebra.proofs.Eval.{below-neg}
 use Rattle.algebra.proofs.Roots.{no-divisors}
 use Rattle.algebra.proofs.PolySums.{times-below}
 use Rattle.algebra.proofs.Homogeneous.{form-swap, form-scale}
 use Rattle.algebra.proofs.Coprime.{const-inverse, coprime-sym, coprime-neg, coprime-scale, coprime-constant}
 use Rattle.decoding.specs.Rational.{Plain, Root}
-use Rattle.decoding.specs.Walk.{Allowed, Visited, LeafRows, Leaf, turned, Found, FoundTurned}
+use Rattle.decoding.specs.Walk.{Visited, LeafRows, Leaf, turned, Found, FoundTurned}
 use Rattle.decoding.specs.Walk.Visited.{start, further}
 use Rattle.decoding.proofs.Reconstruct.{row-coprime, row-b, reconstruct-coprime}
 use Rattle.decoding.proofs.Digit.{next, prefix, prefix-order, prefix-allowed}

@@ -1,24 +1,23 @@
 -- Words: their distance, and how many places fix a codeword.
 use mathlib.Core.Path.{_≡_, refl, sym, _∙_, ap, ap₂, subst}
-use mathlib.Core.List.{List, [], _∷_}
 use mathlib.Core.Bool.{Bool, true, false, cond}
-use mathlib.Core.Logic.{_≢_, _⊎_, inl, inr}
-use Prim.Native.Nat.{ℕ, zero, suc, _+_, _-_, _*_, _≤_, _<_}
+use mathlib.Core.Logic.{_≢_}
+use Prim.Native.Nat.{ℕ, zero, suc, _+_, _≤_, _<_}
 use native.Mathlib.Omega.{arith}
 use Rattle.algebra.specs.Ring.{Ring}
-use Rattle.algebra.specs.Field.{Field}
-use Rattle.algebra.specs.Poly.{conv, padd, pneg, pzero, Below, at}
-use Rattle.algebra.specs.PolyRing.{Poly}
-use Rattle.algebra.specs.Sums.{total, all, count, Distinct}
-use Rattle.algebra.specs.Taylor.{shift}
 use Rattle.algebra.specs.RingLaws as Laws
+use Rattle.algebra.specs.Field.{Field}
+use Rattle.algebra.specs.Sums.{total, all, count, Distinct}
+use Rattle.algebra.specs.Poly.{pzero, Below, at}
+use Rattle.algebra.specs.PolyRing.{Poly}
+use Rattle.algebra.specs.Taylor.{shift}
 use Rattle.algebra.proofs.Eval.{below-add, below-neg, ev-add}
 use Rattle.algebra.proofs.Roots.{id-hom, roots, no-divisors}
 use Rattle.algebra.proofs.Multiple.{shift-at-zero, too-many-roots}
-use Rattle.decoding.specs.Code.{errors, Code, codeword}
 use Rattle.algebra.proofs.Products.{count-cong}
 use Rattle.algebra.proofs.Lagrange.{count-all, apart-sym}
 use Rattle.algebra.proofs.PolySums.{neg-at}
+use Rattle.decoding.specs.Code.{errors, Code, codeword}
 use Rattle.decoding.specs.Setting.{minimum-distance}
 use Rattle.decoding.specs.Words.{Same, differ, distance, error, Codeword, Near}
 

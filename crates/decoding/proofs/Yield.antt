@@ -1,36 +1,36 @@
 -- The pair of a codeword within τ is among the pairs from which the decoder sifts.
-use mathlib.Core.Path.{_≡_, refl, sym, _∙_, ap, ap₂, subst, subst₂, fun-ext}
-use mathlib.Core.List.{List, [], _∷_}
+use mathlib.Core.Path.{_≡_, refl, sym, _∙_, ap, subst, subst₂, fun-ext}
+use mathlib.Core.List.{[], _∷_}
 use mathlib.Core.Bool.{Bool, true, false, cond}
 use mathlib.Core.Logic.{_≢_, _⊎_, inl, inr}
-use Prim.Native.Nat.{ℕ, zero, suc, _+_, _-_, _*_, _≤_, _<_}
+use Prim.Native.Nat.{ℕ, zero, suc, _+_, _-_, _≤_, _<_}
 use native.Mathlib.Omega.{arith}
 use Rattle.algebra.specs.Ring.{Ring}
-use Rattle.algebra.specs.Field.{Field}
-use Rattle.algebra.specs.Poly.{conv, padd, pneg, pzero, const, ev, Below, at, Degree}
-use Rattle.algebra.specs.PolyRing.{Poly, const-conv}
-use Rattle.algebra.specs.Solve.{ring}
-use Rattle.algebra.specs.PolyForms.{forms}
-use Rattle.algebra.specs.Sums.{total, count}
 use Rattle.algebra.specs.RingLaws as Laws
+use Rattle.algebra.specs.Solve.{ring}
+use Rattle.algebra.specs.Field.{Field}
+use Rattle.algebra.specs.Sums.{total}
+use Rattle.algebra.specs.Poly.{pzero, const, Below, at, Degree}
+use Rattle.algebra.specs.PolyRing.{Poly, const-conv}
+use Rattle.algebra.specs.PolyForms.{forms}
+use Rattle.algebra.specs.Taylor.{form}
+use Rattle.algebra.specs.Euclid.{Stopped}
 use Rattle.algebra.proofs.Eval.{below-add, below-conv, ev-more}
 use Rattle.algebra.proofs.Roots.{id-hom}
 use Rattle.algebra.proofs.Coprime.{coprime-scale}
-use Rattle.decoding.specs.Code.{errors, Code, codeword, syndrome, ε, Λ, Ω}
-use Rattle.algebra.specs.Euclid.{Row, Rows, Stopped}
-use Rattle.decoding.specs.KeyEquation.{Key, IsPair}
 use Rattle.algebra.proofs.FieldLaws.{inv-nonzero, neg-nonzero}
 use Rattle.algebra.proofs.PolySums.{times-below, times-at}
-use Rattle.decoding.proofs.KeyEquation.{word-key, marked-error, Λ-below, Λ-root}
 use Rattle.algebra.proofs.Degrees.{degree-of}
 use Rattle.algebra.proofs.Rows.{f₁, f₂}
-use Rattle.decoding.proofs.Pair.{pair, pair-at, few, not-both}
-use Rattle.algebra.specs.Taylor.{form}
-use Rattle.decoding.proofs.Interpolant.{interpolant-root}
+use Rattle.decoding.specs.Code.{errors, Code, codeword, syndrome, ε, Λ, Ω}
+use Rattle.decoding.specs.KeyEquation.{Key, IsPair}
 use Rattle.decoding.specs.Rational.{Root}
-use Rattle.decoding.specs.Words.{Same, error, Near}
+use Rattle.decoding.specs.Words.{error, Near}
 use Rattle.decoding.specs.Sift.{located, Passes}
 use Rattle.decoding.specs.Pairs.{w₁, w₂, y-at, z-at, Interpolates}
+use Rattle.decoding.proofs.KeyEquation.{word-key, marked-error, Λ-below, Λ-root}
+use Rattle.decoding.proofs.Pair.{pair, pair-at, few, not-both}
+use Rattle.decoding.proofs.Interpolant.{interpolant-root}
 use Rattle.decoding.proofs.Words.{total-count}
 use Rattle.decoding.proofs.Sift.{few-errors, pair-passes}
 

@@ -1,6 +1,5 @@
 -- Generalised Reed-Solomon codes, in this order: the code, the word of a message, the multipliers of the dual code, the syndrome of a word;
 -- then of a word e of errors their number, their locator and their evaluator. Words, distances and lists of codewords are in Words.
-use mathlib.Core.Path.{_≡_}
 use mathlib.Core.Bool.{Bool, true, false}
 use Prim.Native.Nat.{ℕ}
 use Rattle.algebra.specs.Ring.{Ring}

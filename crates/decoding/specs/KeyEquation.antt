@@ -1,5 +1,4 @@
 -- The key equation, and the pair by which the rows of Euclid's algorithm give a solution of it.
-use mathlib.Core.Path.{_≡_}
 use mathlib.Core.Logic.{_≢_}
 use Prim.Native.Nat.{ℕ, suc, _-_, _≤_}
 use Rattle.algebra.specs.Ring.{Ring}

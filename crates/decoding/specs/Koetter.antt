@@ -6,8 +6,8 @@ use mathlib.Core.Logic.{_≢_, _⊎_}
 use Prim.Native.Nat.{ℕ, suc, _+_, _-_, _*_, _≤_, _<_}
 use Rattle.algebra.specs.Ring.{Ring}
 use Rattle.algebra.specs.Field.{Field}
-use Rattle.algebra.specs.Poly.{conv, lin}
 use Rattle.algebra.specs.Sums.{total}
+use Rattle.algebra.specs.Poly.{conv, lin}
 use Rattle.decoding.specs.Multiplicity.{Slope, expansion, functional}
 
 pub record Problem (A : Type 0) : Type 0 where

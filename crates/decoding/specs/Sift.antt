@@ -2,11 +2,11 @@
 use mathlib.Core.Path.{_≡_}
 use mathlib.Core.Bool.{Bool, true, false, cond}
 use mathlib.Core.Logic.{_≢_}
-use Prim.Native.Nat.{ℕ, suc, _≤_, _<_}
+use Prim.Native.Nat.{ℕ, suc, _<_}
 use Rattle.algebra.specs.Ring.{Ring}
 use Rattle.algebra.specs.Field.{Field}
-use Rattle.algebra.specs.Poly.{conv, padd, at, Degree}
 use Rattle.algebra.specs.Sums.{count}
+use Rattle.algebra.specs.Poly.{conv, padd, at, Degree}
 use Rattle.decoding.specs.Code.{Code}
 use Rattle.decoding.specs.Words.{Near}
 

@@ -5,7 +5,6 @@ use mathlib.Core.Path.{_≡_}
 use mathlib.Core.Logic.{_≢_}
 use Prim.Native.Nat.{ℕ, suc, _+_, _-_, _*_, _≤_}
 use Rattle.algebra.specs.Ring.{Ring}
-use Rattle.algebra.specs.Field.{Field}
 use Rattle.algebra.specs.Poly.{conv, padd, pneg, pzero, const, mono, up, at, Order}
 use Rattle.algebra.specs.PolyRing.{Poly}
 use Rattle.algebra.specs.Taylor.{taylor, form}

@@ -5,8 +5,8 @@ use mathlib.Core.Bool.{Bool, true, false}
 use Prim.Native.Nat.{ℕ, _≤_, _<_}
 use Rattle.algebra.specs.Ring.{Ring}
 use Rattle.algebra.specs.Field.{Field}
-use Rattle.algebra.specs.Poly.{Below}
 use Rattle.algebra.specs.Sums.{count}
+use Rattle.algebra.specs.Poly.{Below}
 use Rattle.decoding.specs.Code.{Code, codeword}
 
 -- two words agree at the first n places
