@@ -1,8 +1,9 @@
 mod reading;
 
 use codes::Setting;
+pub use reading::ReaderSource;
 
-// A share sheet, read in the caller's bytes: the numbers of its header, and the entries of its places, of six bytes each.
+// A sheet that is read from the caller's bytes, where its entries stay.
 #[derive(Clone, Copy)]
 pub struct Reader<'a> {
     field: u8,

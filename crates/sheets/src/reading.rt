@@ -1,77 +1,91 @@
 ghost use mathlib.Core.Path.{_≡_};
-ghost use Prim.Native.Nat.{_+_, _*_, _<_, _≤_};
+ghost use Prim.Native.Nat.{_+_, _*_, _/_, _≤_};
 ghost use lib.ListN.{length, take};
+ghost use denote.Ref.{now};
 ghost use Rattle.std.specs.Vec.{made};
 ghost use Rattle.codes.specs.Opening.{fault-of};
-ghost use Rattle.sheets.specs.Sheet.{number-at, header-fault, places-of, point-at, multiplier-at, share-at, points-of, multipliers-of, field-fault, Reads};
+ghost use Rattle.sheets.specs.Sheet.{number as number-in, column as column-in, share-in, shares-in, given-in, header-fault, field-fault};
+ghost use Rattle.sheets.specs.Reading.{meant, Short, Reads};
 use crate::Reader;
 use codes::Setting;
+use collections::source::Source;
 use faults::SheetFault;
 
-// The number that stands at the bytes i and i + 1, big-endian.
-fn number(bytes: &[u8], i: usize) -> u16
-    requires { ⌜ i + 1 < length (now bytes) ⌝ }
-    ensures { λ r. ⌜ r ≡ number-at (now (bytes .entry)) i ⌝ }
+const EMPTY: u16 = 0xFFFF;
+
+// The number of the entry of place p that begins at the entry's byte `part`.
+fn number(entries: &[u8], part: usize, p: usize) -> u16
+    requires { ⌜ part ≤ 4 ⌝ }
+    requires { ⌜ 6 * p + 6 ≤ length (now entries) ⌝ }
+    ensures { λ r. ⌜ r ≡ number-in (now (entries .entry)) part p ⌝ }
 {
-    u16::from_be_bytes([bytes[i], bytes[i + 1]])
+    let at = 6 * p + part;
+    u16::from_be_bytes([entries[at], entries[at + 1]])
+}
+
+// The share that a number of a sheet means.
+fn share(number: u16) -> Option<u16>
+    ensures { λ r. ⌜ r ≡ share-in number ⌝ }
+{
+    if number == EMPTY { None } else { Some(number) }
+}
+
+// One number of each entry, in place order.
+fn column(entries: &[u8], part: usize) -> [u16; 255]
+    requires { ⌜ part ≤ 4 ⌝ }
+    requires { ⌜ length (now entries) ≤ 6 * 255 ⌝ }
+    ensures { λ r. ⌜ take (length (now (entries .entry)) / 6) r ≡ column-in (now (entries .entry)) part (length (now (entries .entry)) / 6) ⌝ }
+{
+    let mut numbers = [0; 255];
+    for p in 0..entries.len() / 6 {
+        numbers[p] = number(entries, part, p);
+    }
+    numbers
 }
 
 impl<'a> Reader<'a> {
     // Reads a sheet without copying it, or says what is wrong with its form.
-    pub fn new(bytes: &'a [u8]) -> Result<Reader<'a>, SheetFault>
+    pub fn new(bytes: &'a [u8]) -> Result<Self, SheetFault>
         ensures fault { λ r. ⌜ fault-of r ≡ header-fault (now (bytes .entry)) ⌝ }
-        ensures reads { λ r. ⌜ made r (λ s. Reads (now (bytes .entry)) s) ⌝ }
+        ensures reads { λ r. ⌜ made r (Reads (now (bytes .entry))) ⌝ }
     {
-        let [version, hi, lo, field, n, k, tau, s, l, entries @ ..] = bytes else {
+        let [
+            version,
+            high,
+            low,
+            field,
+            n,
+            threshold,
+            radius,
+            multiplicity,
+            list_limit,
+            entries @ ..,
+        ] = bytes
+        else {
             return Err(SheetFault::Version);
         };
         if *version != 1 {
             return Err(SheetFault::Version);
         }
         let size = 6 * usize::from(*n);
-        if usize::from(u16::from_be_bytes([*hi, *lo])) != 6 + size || entries.len() != size {
+        if usize::from(u16::from_be_bytes([*high, *low])) != 6 + size || entries.len() != size {
             return Err(SheetFault::Length);
         }
         Ok(Reader {
             field: *field,
-            threshold: *k,
+            threshold: *threshold,
             setting: Setting {
-                radius: *tau,
-                multiplicity: *s,
-                list_limit: *l,
+                radius: *radius,
+                multiplicity: *multiplicity,
+                list_limit: *list_limit,
             },
             entries,
         })
     }
 
-    // The number of places.
-    pub fn count(&self) -> usize
-        ensures { λ r. ⌜ r ≡ places-of (now (self .entry)) ⌝ }
-    {
-        self.entries.len() / 6
-    }
-
-    pub fn field(&self) -> u8
-        ensures { λ r. ⌜ r ≡ now (self .entry) .field ⌝ }
-    {
-        self.field
-    }
-
-    pub fn threshold(&self) -> u8
-        ensures { λ r. ⌜ r ≡ now (self .entry) .threshold ⌝ }
-    {
-        self.threshold
-    }
-
-    pub fn setting(&self) -> Setting
-        ensures { λ r. ⌜ r ≡ now (self .entry) .setting ⌝ }
-    {
-        self.setting
-    }
-
     // Refuses a sheet of another field than that with this sheet number.
     pub fn check_field(&self, tag: u8) -> Result<(), SheetFault>
-        ensures { λ r. ⌜ fault-of r ≡ field-fault tag (now (self .entry) .field) ⌝ }
+        ensures { λ r. ⌜ fault-of r ≡ field-fault tag (meant (now (self .entry))) ⌝ }
     {
         let number = self.field;
         if number != tag {
@@ -80,53 +94,52 @@ impl<'a> Reader<'a> {
         Ok(())
     }
 
-    // The point of place i.
-    pub fn point(&self, i: usize) -> u16
-        requires { ⌜ i < places-of (now self) ⌝ }
-        ensures { λ r. ⌜ r ≡ point-at (now (self .entry)) i ⌝ }
+    pub fn field(&self) -> u8
+        ensures { λ r. ⌜ r ≡ meant (now (self .entry)) .field ⌝ }
     {
-        number(self.entries, 6 * i)
+        self.field
     }
 
-    // The multiplier of place i.
-    pub fn multiplier(&self, i: usize) -> u16
-        requires { ⌜ i < places-of (now self) ⌝ }
-        ensures { λ r. ⌜ r ≡ multiplier-at (now (self .entry)) i ⌝ }
+    pub fn threshold(&self) -> u8
+        ensures { λ r. ⌜ r ≡ meant (now (self .entry)) .threshold ⌝ }
     {
-        number(self.entries, 6 * i + 2)
+        self.threshold
     }
 
-    // The share of place i, as it stands: 0xFFFF for an empty place.
-    pub fn share(&self, i: usize) -> u16
-        requires { ⌜ i < places-of (now self) ⌝ }
-        ensures { λ r. ⌜ r ≡ share-at (now (self .entry)) i ⌝ }
+    pub fn setting(&self) -> Setting
+        ensures { λ r. ⌜ r ≡ meant (now (self .entry)) .setting ⌝ }
     {
-        number(self.entries, 6 * i + 4)
+        self.setting
     }
 
-    // The points of all places, with zeros behind them.
-    pub fn points(&self) -> [u16; 32]
-        requires { ⌜ places-of (now self) ≤ 32 ⌝ }
-        ensures length { λ r. ⌜ length r ≡ 32 ⌝ }
-        ensures front { λ r. ⌜ take (places-of (now (self .entry))) r ≡ points-of (now (self .entry)) ⌝ }
+    // The points of all places; what stands behind them means nothing.
+    pub fn points(&self) -> [u16; 255]
+        requires { ⌜ Short (now self) ⌝ }
+        ensures { λ r. ⌜ take (meant (now (self .entry)) .count) r ≡ given-in (meant (now (self .entry))) .points ⌝ }
     {
-        let mut at = [0; 32];
-        for i in 0..self.count() {
-            at[i] = self.point(i);
+        column(self.entries, 0)
+    }
+
+    // The multipliers of all places; what stands behind them means nothing.
+    pub fn multipliers(&self) -> [u16; 255]
+        requires { ⌜ Short (now self) ⌝ }
+        ensures { λ r. ⌜ take (meant (now (self .entry)) .count) r ≡ given-in (meant (now (self .entry))) .multipliers ⌝ }
+    {
+        column(self.entries, 2)
+    }
+}
+
+pub impl Source for Reader<'_> as ReaderSource {
+    ghost told = { λ r. shares-in (meant r) };
+
+    fn count(&self) -> usize {
+        self.entries.len() / 6
+    }
+
+    fn place(&self, i: usize) -> Option<u16> {
+        if i >= self.entries.len() / 6 {
+            return None;
         }
-        at
-    }
-
-    // The multipliers of all places, with zeros behind them.
-    pub fn multipliers(&self) -> [u16; 32]
-        requires { ⌜ places-of (now self) ≤ 32 ⌝ }
-        ensures length { λ r. ⌜ length r ≡ 32 ⌝ }
-        ensures front { λ r. ⌜ take (places-of (now (self .entry))) r ≡ multipliers-of (now (self .entry)) ⌝ }
-    {
-        let mut at = [0; 32];
-        for i in 0..self.count() {
-            at[i] = self.multiplier(i);
-        }
-        at
+        share(number(self.entries, 4, i))
     }
 }
