@@ -1,4 +1,4 @@
--- Degrees.
+-- Degrees: of products, sums, opposites and powers of x; size finds the degree, so that a polynomial is zero or has one; the divisors of 1.
 use mathlib.Core.Path.{_≡_, sym, _∙_, ap, subst}
 use mathlib.Core.Logic.{_≢_, _⊎_, inl, inr}
 use Prim.Native.Nat.{ℕ, zero, suc, _+_, _<_}

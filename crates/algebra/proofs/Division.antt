@@ -1,4 +1,4 @@
--- Division of polynomials.
+-- Division with remainder over a field: that quotient and remainder are what they are called, their degrees, and that they are unique.
 use mathlib.Core.Path.{_≡_, refl, sym, _∙_, ap, ap₂}
 use mathlib.Core.List.{[], _∷_}
 use mathlib.Core.Logic.{_≢_, _⊎_, inl, inr}

@@ -1,4 +1,4 @@
--- Euclid's algorithm to its end, for any limit at which it stops.
+-- Euclid's algorithm runs to its end: for any rule that says when to stop there are rows at which it does.
 use mathlib.Core.Path.{_≡_, refl}
 use Prim.Native.Nat.{ℕ, zero, suc, _+_, _-_, _≤_, _<_}
 use native.Mathlib.Omega.{arith}

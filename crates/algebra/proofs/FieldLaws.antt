@@ -1,4 +1,4 @@
--- What is not zero in a field.
+-- What is not zero in a field: products, inverses, opposites and powers of what is not zero.
 use mathlib.Core.Path.{_≡_, sym, _∙_, ap}
 use mathlib.Core.Logic.{_≢_}
 use Prim.Native.Nat.{ℕ, zero, suc}

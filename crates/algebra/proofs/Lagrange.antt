@@ -1,4 +1,5 @@
--- Lagrange's interpolation.
+-- Lagrange's interpolation: the polynomial of given values, and that a polynomial with n coefficients is that of its values at n points; so the
+-- values times the barycentric weights sum to the coefficient of x ^ (n - 1).
 use mathlib.Core.Path.{_≡_, refl, sym, _∙_, ap, subst}
 use mathlib.Core.List.{[], _∷_}
 use mathlib.Core.Logic.{_≢_}

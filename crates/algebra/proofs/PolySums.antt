@@ -1,4 +1,4 @@
--- Finite sums of polynomials: their coefficients, degrees and values.
+-- Finite sums of polynomials, and multiples by a constant: their coefficients, bounds and values.
 use mathlib.Core.Path.{_≡_, refl, sym, _∙_, ap, ap₂, fun-ext}
 use mathlib.Core.Logic.{_≢_}
 use Prim.Native.Nat.{ℕ, zero, suc, _≤_, _<_}

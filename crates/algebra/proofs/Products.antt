@@ -1,4 +1,5 @@
--- Products over marked places, and the polynomials ∏ (x - α h).
+-- Counts and products over marked places: one place apart, what is zero and what is not; and the polynomials ∏ (x - α h): monic, their degree,
+-- their values.
 use mathlib.Core.Path.{_≡_, refl, sym, _∙_, ap, ap₂, subst}
 use mathlib.Core.List.{[], _∷_}
 use mathlib.Core.Bool.{Bool, true, false, cond}

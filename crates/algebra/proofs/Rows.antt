@@ -1,4 +1,5 @@
--- Euclid's rows, and every pair (g, h) with g + h S divisible by x ^ D as a combination of two of them.
+-- Euclid's rows: the first two and each next one have the properties of Rows; and every pair (g, h) with g + h S divisible by x ^ D is a
+-- combination of two rows that follow one another (Cramer's rule), with bounds on the two factors.
 use mathlib.Core.Path.{_≡_, refl, sym, _∙_, ap, ap₂, subst}
 use mathlib.Core.List.{[], _∷_}
 use Prim.Native.Nat.{ℕ, suc, _+_, _-_, _≤_, _<_}

@@ -1,4 +1,4 @@
--- The shift x ↦ x + a of polynomials whose bounds are left open.
+-- The shift x ↦ x + a of polynomials whose bounds are left open: through sums, products, powers and homogeneous forms.
 use mathlib.Core.Path.{_≡_, refl, sym, _∙_, ap₂}
 use Prim.Native.Nat.{ℕ, zero, suc, _+_, _-_, _≤_, _<_}
 use native.Mathlib.Omega.{arith}

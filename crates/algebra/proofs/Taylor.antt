@@ -1,4 +1,5 @@
--- The binomial lemma, and the coefficients of a shifted polynomial.
+-- The coefficients tay of (u + φ) ^ j: where they are zero; the binomial lemma for homogeneous forms (star); they are the coefficients of a shifted
+-- polynomial, so that a shift after a shift is one shift; they go through homomorphisms.
 use mathlib.Core.Path.{_≡_, refl, sym, _∙_, ap, ap₂, fun-ext}
 use mathlib.Core.List.{[], _∷_}
 use mathlib.Core.Logic.{_≢_}

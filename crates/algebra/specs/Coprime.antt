@@ -1,4 +1,5 @@
--- Coprime polynomials, and when a pair of them is normalised.
+-- Coprime polynomials, and when a pair of them is normalised. Coprime means that 1 is a combination of the two with polynomials as factors, each
+-- of which has a bound; it says the same as that there is no common factor, and is what proofs use.
 use mathlib.Core.Path.{_≡_}
 use mathlib.Core.Logic.{_⊎_}
 use Prim.Native.Nat.{ℕ}

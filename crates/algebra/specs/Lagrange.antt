@@ -1,4 +1,4 @@
--- Polynomials by their values at n points: ∏ (x - α h) over some of the places, and the weights of Lagrange's interpolation.
+-- Polynomials by their values at n points: ∏ (x - α h) over some of the places, and the barycentric weights of Lagrange's interpolation.
 use mathlib.Core.Bool.{Bool}
 use Prim.Native.Nat.{ℕ}
 use Rattle.algebra.specs.Ring.{Ring}

@@ -1,4 +1,4 @@
--- The choice of the pivot, row by row.
+-- The choice of the pivot, row by row: what is known of the rows before k gives what is known of those before k + 1. A loop over the rows keeps it.
 use mathlib.Core.Path.{_≡_, sym, subst}
 use mathlib.Core.Logic.{_≢_}
 use Prim.Native.Nat.{ℕ, suc, _+_, _≤_, _<_}

@@ -1,4 +1,5 @@
--- The words that are sifted are the codewords within τ, all of them and no other.
+-- The words that are sifted are the codewords within τ, all of them and no other: for any set of pairs that is right, and for a list of pairs; from each
+-- pair one word at most. Where neither weight is negative an accepted setting has an interpolant.
 use mathlib.Core.Path.{_≡_, refl, sym, subst₂}
 use mathlib.Core.Logic.{_↔_}
 use Prim.Native.Nat.{ℕ, suc, _+_, _-_, _*_, _≤_, _<_}

@@ -1,4 +1,5 @@
--- The constraints done by three loops, their number, and the number of coefficients below the degree bounds.
+-- The constraints that three loops have done, over the places, over b and over a, step by step; their number n s (s + 1) / 2; and the number of coefficients
+-- below the bounds on the weighted degree, which is larger where a setting is accepted.
 use mathlib.Core.Path.{_≡_, refl, ap}
 use mathlib.Core.Logic.{inl, inr}
 use Prim.Native.Nat.{ℕ, zero, suc, _+_, _-_, _*_, _≤_, _<_}

@@ -1,4 +1,4 @@
--- A step can always be made, so that an interpolant exists.
+-- A step of Kötter's iteration can always be made, so that an interpolant exists where there are more coefficients than constraints.
 use mathlib.Core.Path.{_≡_, refl, sym, _∙_, ap, subst}
 use mathlib.Core.Logic.{_≢_, _⊎_, inl, inr}
 use Prim.Native.Nat.{ℕ, zero, suc, _+_, _-_, _≤_, _<_}

@@ -1,4 +1,4 @@
--- The functionals of the constraints: they are linear, and what they make of (x - β) Q.
+-- The functionals of the constraints: they are linear, and that of the order a of (x - β) Q comes from those of the orders a and a - 1 of Q.
 use mathlib.Core.Path.{_≡_, refl, sym, _∙_, ap, ap₂, fun-ext}
 use mathlib.Core.List.{[], _∷_}
 use Prim.Native.Nat.{ℕ, suc, _≤_, _<_}

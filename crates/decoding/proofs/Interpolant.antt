@@ -1,4 +1,4 @@
--- A homogeneous Q with roots of multiplicity s at n points: when there is one, and at which pairs it vanishes.
+-- The interpolant of the decoder: when there is one, by counting, and that it vanishes at every pair through enough of its points.
 use mathlib.Core.Path.{_≡_, sym, subst}
 use mathlib.Core.Logic.{_≢_}
 use Prim.Native.Nat.{ℕ, suc, _+_, _-_, _*_, _≤_, _<_}

@@ -1,4 +1,5 @@
--- Kötter's iteration keeps its invariant, and finds an interpolant.
+-- Kötter's iteration keeps its invariant, and finds an interpolant. In this order: sums of exponents; the start; a step that changes nothing, a step
+-- with a pivot (the other rows, the pivot, all together); some row is still in use where there are fewer constraints than coefficients; a whole run.
 use mathlib.Core.Path.{_≡_, refl, sym, _∙_, ap, ap₂, subst}
 use mathlib.Core.List.{[], _∷_}
 use mathlib.Core.Logic.{_≢_, _⊎_, inl, inr}

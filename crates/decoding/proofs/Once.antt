@@ -1,4 +1,4 @@
--- The digits that a walk takes, by one equation; and a pair comes from one leaf only.
+-- The digits that a walk takes, by one equation: they are the roots of one polynomial over the field; and a pair comes from one leaf only.
 use mathlib.Core.Path.{_≡_, sym, _∙_, ap, ap₂, fun-ext, subst}
 use mathlib.Core.List.{[], _∷_}
 use mathlib.Core.Logic.{_≢_, _↔_}

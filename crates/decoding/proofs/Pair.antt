@@ -1,4 +1,5 @@
--- The pair (f₁, f₂) of two polynomials Λ and Ω with Λ S = Ω modulo x ^ D, by the rows at which Euclid's algorithm stops.
+-- The pair (f₁, f₂) of a solution of the key equation, by the rows at which Euclid's algorithm stops: its bounds, that f₂ is not zero and the two are
+-- coprime; the locator's value at a point from the pair's; with few errors the pair is (0, a constant).
 use mathlib.Core.Path.{_≡_, sym, _∙_, ap, ap₂, subst}
 use mathlib.Core.List.{[], _∷_}
 use mathlib.Core.Logic.{_≢_, _⊎_, inl, inr}

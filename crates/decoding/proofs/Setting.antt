@@ -1,4 +1,5 @@
--- What an accepted setting gives.
+-- What an accepted setting gives: the radius is below the minimum distance, so that k places are left; past half the distance the multiplicity is below ℓ,
+-- and there are more coefficients than constraints.
 use mathlib.Core.Path.{_≡_, ap}
 use mathlib.Core.Logic.{inl, inr}
 use Prim.Native.Nat.{ℕ, suc, _+_, _-_, _*_, _≤_, _<_}

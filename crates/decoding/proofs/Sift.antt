@@ -1,4 +1,5 @@
--- The sift is sound, yields one word from a pair at most, and yields a codeword from its pair.
+-- The sift is sound, one word at most passes by a polynomial of a degree of n - k at most, and a codeword within τ passes by the locator of its errors,
+-- which its pair gives up to a constant.
 use mathlib.Core.Path.{_≡_, refl, sym, _∙_, ap, subst}
 use mathlib.Core.List.{[], _∷_}
 use mathlib.Core.Bool.{Bool, true, false, cond}

@@ -1,4 +1,5 @@
--- A pair (f₁, f₂) through many roots of a homogeneous Q, of high multiplicity, is a root of Q.
+-- The root theorem: a pair (f₁, f₂) through many points at which a homogeneous Q has roots of multiplicity s makes Q vanish. In this order: orders of
+-- forms; at one point, for a finite and for an infinite ratio; bounds of the terms; the theorem by multiplicities (root), and by degrees (root-of-pair).
 use mathlib.Core.Path.{_≡_, sym, _∙_, ap, ap₂}
 use mathlib.Core.List.{[], _∷_}
 use mathlib.Core.Logic.{_≢_}

@@ -1,4 +1,4 @@
--- The whole: the words that are sifted from the pairs to which the walks come are the codewords within τ.
+-- The whole: the words that are sifted from the pairs to which the walks come are the codewords within τ; and these, each once, are a listing.
 use mathlib.Core.Path.{_≡_, refl}
 use mathlib.Core.Logic.{_⊎_, _↔_}
 use Prim.Native.Nat.{ℕ, suc, _+_, _≤_, _<_}

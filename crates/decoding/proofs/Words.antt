@@ -1,4 +1,5 @@
--- Words: their distance, and how many places fix a codeword.
+-- Words: marks and counts; distance and errors; a polynomial below k is fixed by its values at k points, so that k places fix a codeword, and two codewords
+-- that are closer than the minimum distance are the same.
 use mathlib.Core.Path.{_≡_, refl, sym, _∙_, ap, ap₂, subst}
 use mathlib.Core.Bool.{Bool, true, false, cond}
 use mathlib.Core.Logic.{_≢_}

@@ -1,4 +1,5 @@
--- The pair of a codeword within τ is among the pairs from which the decoder sifts.
+-- What a codeword within τ yields: w₂ is not negative; where w₁ is, the codeword passes by the pair (0, 1); and else its pair, normalised, is a root of every
+-- interpolant, within the bounds, by which it passes.
 use mathlib.Core.Path.{_≡_, refl, sym, _∙_, ap, subst, subst₂, fun-ext}
 use mathlib.Core.List.{[], _∷_}
 use mathlib.Core.Bool.{Bool, true, false, cond}

@@ -1,4 +1,5 @@
--- The key equation, and the pair by which the rows of Euclid's algorithm give a solution of it.
+-- The key equation (Key), and the pair by which the rows of Euclid's algorithm give a solution of it (IsPair). That locator and evaluator solve it is
+-- in proofs/KeyEquation, and that each solution has a pair in proofs/Pair.
 use mathlib.Core.Logic.{_≢_}
 use Prim.Native.Nat.{ℕ, suc, _-_, _≤_}
 use Rattle.algebra.specs.Ring.{Ring}

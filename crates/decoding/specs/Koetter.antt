@@ -1,6 +1,10 @@
--- Kötter's iteration: a step, and what holds between steps.
+-- Kötter's iteration for a homogeneous interpolant, as a relation between families of rows, in this order: a problem (Problem); the choice of the pivot
+-- (None, Least); a step (Skip, Pivot) and the start; what holds between steps (Invariant); an interpolant (Interpolant); the constraints that are done;
+-- a whole run (Run); the decoder's problem (homogeneous) and the order in which its loops take the constraints.
+--
 -- There are ℓ + 1 rows. Row j is a homogeneous Q with the coefficient G j t m of x ^ m y ^ t z ^ (ℓ - t); its leading term is
--- at the position j, with the exponent e j. The constraint (i, a, b) is the one of the orders a, b at the place i.
+-- at the position j, with the exponent e j. The constraint (i, a, b) is the one of the orders a, b at the place i. A row is in use (Live)
+-- while its weighted degree is below the bound; the others are no longer kept.
 use mathlib.Core.Path.{_≡_}
 use mathlib.Core.Logic.{_≢_, _⊎_}
 use Prim.Native.Nat.{ℕ, suc, _+_, _-_, _*_, _≤_, _<_}

@@ -1,5 +1,5 @@
--- What it is for a homogeneous Q = Σ_{t ≤ ℓ} Q_t (x) y ^ t z ^ (ℓ - t) to have a root of multiplicity s at x = α, (y : z).
--- Q t m is the coefficient of x ^ m in Q_t.
+-- What it is for a homogeneous Q = Σ_{t ≤ ℓ} Q_t (x) y ^ t z ^ (ℓ - t) to have a root of multiplicity s at x = α, (y : z): the coefficients of its expansion
+-- there, up to the order s, are zero. Each is a functional of Q, linear in its coefficients. Q t m is the coefficient of x ^ m in Q_t.
 use mathlib.Core.Path.{_≡_}
 use Prim.Native.Nat.{ℕ, suc, _+_, _-_, _<_}
 use Rattle.algebra.specs.Ring.{Ring}

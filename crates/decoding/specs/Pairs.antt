@@ -1,5 +1,5 @@
--- The pairs from which a list decoder sifts, by the rows at which Euclid's algorithm stops: their bounds, the interpolant of
--- which they are roots, and the two cases of a negative bound.
+-- The pairs from which a list decoder sifts, by the rows at which Euclid's algorithm stops, in this order: the weights; the point y : z of each place;
+-- what is sifted from a set of pairs; the interpolant at all places; and when a set of pairs is the right one to sift from.
 use mathlib.Core.Path.{_≡_}
 use mathlib.Core.Logic.{_↔_}
 use Prim.Native.Nat.{ℕ, suc, _-_, _*_, _≤_, _<_}

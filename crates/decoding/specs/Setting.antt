@@ -1,4 +1,5 @@
--- The settings (τ, s, ℓ) that a list decoder takes, for a code of n places with the threshold k.
+-- The settings (τ, s, ℓ) that a list decoder takes, for a code of n places with the threshold k: the radius τ, the multiplicity s of the interpolant's roots,
+-- and its degree ℓ in y and z, which is the longest that a list can be.
 use mathlib.Core.Logic.{_⊎_}
 use Prim.Native.Nat.{ℕ, suc, _+_, _-_, _*_, _≤_, _<_}
 

@@ -1,4 +1,6 @@
--- How a pair (f₁, f₂) is sifted: by the locator f₁ h₁ + f₂ h₂, for the second entries h₁, h₂ of two of Euclid's rows.
+-- How a pair (f₁, f₂) is sifted: by the locator f₁ h₁ + f₂ h₂ that it stands for, with the second entries h₁, h₂ of two of Euclid's rows. A word passes
+-- where this polynomial has as many roots among the points as its degree, and the word is a codeword within the radius that differs from the shares at
+-- those roots only.
 use mathlib.Core.Path.{_≡_}
 use mathlib.Core.Bool.{Bool, true, false, cond}
 use mathlib.Core.Logic.{_≢_}
