@@ -1,0 +1,3 @@
+pub mod Interpolation
+pub mod Roots
+pub mod Received
