@@ -2,7 +2,7 @@
 -- that the factors of 1 are the constants other than zero.
 use mathlib.Core.Path.{_≡_, refl, _∙_, ap, fun-ext}
 use mathlib.Core.Logic.{_≢_, _⊎_, inl, inr}
-use Prim.Native.Nat.{ℕ, zero, suc, _+_, _<_}
+use Prim.Native.Nat.{ℕ, zero, suc, _+_}
 use native.Mathlib.Omega.{arith}
 use Rattle.algebra.specs.Ring.{Ring}
 use Rattle.algebra.specs.Solve.{ring}
@@ -11,8 +11,8 @@ use Rattle.algebra.specs.Poly.{conv, padd, pneg, pzero, const, Below, Bounded,
 use Rattle.algebra.specs.PolyRing.{Poly}
 use Rattle.algebra.proofs.Eval.{below-add, below-neg, below-const, below-conv}
 use Rattle.algebra.proofs.Monomials.{mono-below}
-use Rattle.algebra.proofs.Degrees.{unit-degree}
-use Rattle.algebra.proofs.Roots.{degree, no-divisors-poly}
+use Rattle.algebra.proofs.PolySums.{zero-coefficient}
+use Rattle.algebra.proofs.Degrees.{degree-of, no-divisors-poly, unit-degree}
 
 module _ (R : Ring) where
   infixl 60 _⊕_
@@ -51,12 +51,11 @@ module _ (𝓕 : Field) where
 
   -- zero or not
   pub decide-zero : (p : ℕ → El) → Bounded R p → (p ≡ pzero R) ⊎ (p ≢ pzero R)
-  unfolding pzero
-  decide-zero p (n, h) = go (degree 𝓕 n p h)
-    where
-      go : (p ≡ pzero R) ⊎ ((d : ℕ) × (d < n) × Below R (suc d) p × (p d ≢ 𝟘)) → (p ≡ pzero R) ⊎ (p ≢ pzero R)
-      go (inl e) = inl e
-      go (inr (d, l, b, c)) = inr (λ e. c (ap (λ (f : ℕ → El). f d) e))
+  decide-zero p (n, h) =
+      elim (degree-of 𝓕 n p h) [
+        | inl e ↦ inl e
+        | inr t ↦ inr (λ e. t .1 .lead (ap (λ (f : ℕ → El). f (t .0)) e ∙ zero-coefficient R (t .0)))
+      ]
 
   pub cancel : (p q : ℕ → El) → Bounded R p → Bounded R q → conv R p q ≡ pzero R → p ≢ pzero R → q ≡ pzero R
   cancel p q (n, hp) (m, hq) e k = elim (no-divisors-poly 𝓕 n m p q hp hq e) [ inl z ↦ absurd (k z) | inr z ↦ z ]

@@ -1,5 +1,6 @@
--- Degrees: of products, sums, opposites and powers of x; size finds the degree, so that a polynomial is zero or has one; the divisors of 1.
-use mathlib.Core.Path.{_≡_, sym, _∙_, ap, subst}
+-- Degrees: of products, sums, opposites and powers of x; size finds the degree, so that a polynomial is zero or has one; there are no zero divisors;
+-- the divisors of 1.
+use mathlib.Core.Path.{_≡_, refl, sym, _∙_, ap, subst}
 use mathlib.Core.Logic.{_≢_, _⊎_, inl, inr}
 use Prim.Native.Nat.{ℕ, zero, suc, _+_, _<_}
 use native.Mathlib.Omega.{arith}
@@ -10,8 +11,7 @@ use Rattle.algebra.specs.Field.{Field}
 use Rattle.algebra.specs.Poly.{padd, pneg, pzero, const, Below, Degree, mono}
 use Rattle.algebra.specs.PolyRing.{Poly}
 use Rattle.algebra.specs.Division.{size}
-use Rattle.algebra.proofs.Eval.{below-const, below-add, below-neg, below-conv, lead-conv}
-use Rattle.algebra.proofs.Roots.{degree}
+use Rattle.algebra.proofs.Eval.{below-zero, below-const, below-add, below-neg, below-conv, lead-conv}
 use Rattle.algebra.proofs.FieldLaws.{mul-nonzero, neg-nonzero}
 use Rattle.algebra.proofs.PolySums.{zero-coefficient, const-coefficient}
 use Rattle.algebra.proofs.Monomials.{mono-below, mono-lead}
@@ -81,8 +81,21 @@ module _ (𝓕 : Field) where
 
   -- a polynomial is zero or has a degree
   pub degree-of : (n : ℕ) (p : ℕ → El) → Below R n p → (p ≡ pzero R) ⊎ ((d : ℕ) × Degree R d p)
-  degree-of n p h =
-      elim (degree 𝓕 n p h) [ inl z ↦ inl z | inr t ↦ inr (t .0, record { below = t .2; lead = t .3 }) ]
+  degree-of n p h = go (size 𝓕 n p) refl
+    where
+      go : (m : ℕ) → size 𝓕 n p ≡ m → (p ≡ pzero R) ⊎ ((d : ℕ) × Degree R d p)
+      go zero e = inl (below-zero R p (subst (λ m. Below R m p) e (size-below n p h)))
+      go (suc d) e = inr (d, size-degree n d p h e)
+
+  -- no zero divisors
+  pub no-divisors-poly : (n m : ℕ) (p q : ℕ → El) → Below R n p → Below R m q → p ⊠ q ≡ pzero R → (p ≡ pzero R) ⊎ (q ≡ pzero R)
+  no-divisors-poly n m p q hp hq e = go (degree-of n p hp) (degree-of m q hq)
+    where
+      go : (p ≡ pzero R) ⊎ ((d : ℕ) × Degree R d p) → (q ≡ pzero R) ⊎ ((d : ℕ) × Degree R d q) → (p ≡ pzero R) ⊎ (q ≡ pzero R)
+      go (inl z) s = inl z
+      go (inr t) (inl z) = inr z
+      go (inr (a, ha)) (inr (b, hb)) =
+          absurd (degree-mul a b p q ha hb .lead (ap (λ (f : ℕ → El). f (a + b)) e ∙ zero-coefficient R (a + b)))
 
   -- a divisor of 1 is a constant
   pub unit-degree : (n m : ℕ) (p q : ℕ → El) → Below R n p → Below R m q → p ⊠ q ≡ const R 𝟙 → Degree R 0 q

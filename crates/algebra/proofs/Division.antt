@@ -1,7 +1,7 @@
 -- Division with remainder over a field: that quotient and remainder are what they are called, their degrees, and that they are unique.
 use mathlib.Core.Path.{_≡_, refl, sym, _∙_, ap, ap₂}
 use mathlib.Core.List.{[], _∷_}
-use mathlib.Core.Logic.{_≢_, _⊎_, inl, inr}
+use mathlib.Core.Logic.{_⊎_, inl, inr}
 use Prim.Native.Nat.{ℕ, zero, suc, _+_, _-_, _<_}
 use native.Mathlib.Omega.{arith}
 use native.Mathlib.Decide.{decLt}
@@ -14,7 +14,7 @@ use Rattle.algebra.specs.PolyRing.{Poly, const-conv}
 use Rattle.algebra.specs.PolyForms.{forms}
 use Rattle.algebra.specs.Division.{reduce, quotient, remainder}
 use Rattle.algebra.proofs.Eval.{below-add, below-neg, below-conv, lead-conv}
-use Rattle.algebra.proofs.Roots.{degree}
+use Rattle.algebra.proofs.Degrees.{degree-of}
 use Rattle.algebra.proofs.FieldLaws.{mul-nonzero, inv-nonzero}
 use Rattle.algebra.proofs.PolySums.{times-below}
 use Rattle.algebra.proofs.Monomials.{mono-below, mono-lead, mono-conv}
@@ -112,7 +112,7 @@ module _ (𝓕 : Field) where
       -- quotient and remainder are unique
       pub division-unique : (k : ℕ) (q r q′ r′ : ℕ → El) → Below R k q → Below R k q′ → Below R m r → Below R m r′
           → q ⊠ g ⊞ r ≡ q′ ⊠ g ⊞ r′ → (q ≡ q′) × (r ≡ r′)
-      division-unique k q r q′ r′ hq hq′ hr hr′ e = go (degree 𝓕 k (q ⊞ ⊟ q′) (below-add R k q (⊟ q′) hq (below-neg R k q′ hq′)))
+      division-unique k q r q′ r′ hq hq′ hr hr′ e = go (degree-of 𝓕 k (q ⊞ ⊟ q′) (below-add R k q (⊟ q′) hq (below-neg R k q′ hq′)))
         where
           product : (q ⊞ ⊟ q′) ⊠ g ≡ r′ ⊞ ⊟ r
           product =
@@ -120,13 +120,13 @@ module _ (𝓕 : Field) where
               ∙ ap (λ z. z ⊞ ⊟ (q′ ⊠ g) ⊞ ⊟ r) e
               ∙ ring (Poly R) (q′ ∷ g ∷ r ∷ r′ ∷ []) (search forms depth 20) tt
 
-          go : (q ⊞ ⊟ q′ ≡ pzero R) ⊎ ((d : ℕ) × (d < k) × Below R (suc d) (q ⊞ ⊟ q′) × ((q ⊞ ⊟ q′) d ≢ 𝟘)) → (q ≡ q′) × (r ≡ r′)
+          go : (q ⊞ ⊟ q′ ≡ pzero R) ⊎ ((d : ℕ) × Degree R d (q ⊞ ⊟ q′)) → (q ≡ q′) × (r ≡ r′)
           go (inl z) = (
             L.eq-of-sub (Poly R) q q′ z,
             sym (L.eq-of-sub (Poly R) r′ r (sym product ∙ ap (λ y. y ⊠ g) z ∙ L.zero-mul (Poly R) g)),
           )
-          go (inr (d, l, b, c)) =
+          go (inr (d, c)) =
               absurd
-              (mul-nonzero 𝓕 c (hg .lead)
-              (sym (lead-conv R d m (q ⊞ ⊟ q′) g b (hg .below)) ∙ ap (λ (f : ℕ → El). f (d + m)) product
+              (mul-nonzero 𝓕 (c .lead) (hg .lead)
+              (sym (lead-conv R d m (q ⊞ ⊟ q′) g (c .below) (hg .below)) ∙ ap (λ (f : ℕ → El). f (d + m)) product
               ∙ below-add R m r′ (⊟ r) hr′ (below-neg R m r hr) (d + m) (omega arith)))

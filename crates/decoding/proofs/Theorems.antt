@@ -4,15 +4,16 @@ use native.Mathlib.Omega.{arith}
 use Rattle.algebra.specs.Field.{Field}
 use Rattle.algebra.proofs.Euclid.{euclid}
 use Rattle.decoding.specs.Code.{syndrome}
-use Rattle.decoding.specs.Pairs.{w₁, w₂}
+use Rattle.decoding.specs.Pairs.{w₁, w₂, Among}
 use Rattle.decoding.specs.Rational.{Root}
-use Rattle.decoding.specs.Theorems.{MinimumDistance, KeyEquation, InterpolantExists, Complete, CompleteList, WalksFindRoots, AtMost}
+use Rattle.decoding.specs.Theorems.{MinimumDistance, KeyEquation, InterpolantExists, Complete, CompleteList, SiftedListing, WalksFindRoots, AtMost}
 use Rattle.decoding.proofs.Words.{least}
 use Rattle.decoding.proofs.KeyEquation.{word-key, syndrome-below}
 use Rattle.decoding.proofs.Yield.{yield-some, yield-single}
 use Rattle.decoding.proofs.Complete.{interpolant, complete, complete-array}
-use Rattle.decoding.proofs.AtMost.{at-most}
+use Rattle.decoding.proofs.AtMost.{at-most, listing-short}
 use Rattle.decoding.proofs.Walk.{roots-exact}
+use Rattle.decoding.proofs.Whole.{listing}
 
 module _ (𝓕 : Field) where
   pub minimum-distance-stands : MinimumDistance 𝓕
@@ -41,6 +42,11 @@ module _ (𝓕 : Field) where
 
   pub complete-list-stands : CompleteList 𝓕
   complete-list-stands C k τ s ℓ sum A r T = complete-array 𝓕 C A sum r T
+
+  pub sifted-listing-stands : SiftedListing 𝓕
+  sifted-listing-stands C k τ s ℓ sum A r T p F₁ F₂ pairs m W each kept once =
+      let list = listing 𝓕 C A sum r T (Among p F₁ F₂) pairs m W each kept once in
+      (list, listing-short 𝓕 C A sum r m W list)
 
   pub walks-find-roots-stand : WalksFindRoots 𝓕
   walks-find-roots-stand ℓ w₁ w₂ Q stop stop′ = roots-exact 𝓕 ℓ w₁ w₂ Q stop′ stop

@@ -1,8 +1,8 @@
 -- The theorems of the list decoder, each as one statement about a field: it is said of every field, since a field is a member of the
 -- trait that the functions of src/lib.rt are generic in. There is no premise beyond the field's laws, the code's conditions and, where a
 -- list is meant, that the setting is accepted. In this order: the minimum distance, the key equation, the interpolant, the decoder as a
--- whole for one received word (Decodes) and that it is right (Complete), the same for a list of pairs that a program has found, the walks that
--- find these pairs, and how long a list is at most.
+-- whole for one received word (Decodes) and that it is right (Complete), the same for a list of pairs that a program has found, and for the
+-- list that it makes of what is sifted, the walks that find these pairs, and how long a list is at most.
 use mathlib.Core.Path.{_≡_}
 use mathlib.Core.Logic.{_↔_, _⊎_}
 use Prim.Native.Nat.{ℕ, suc, _+_, _≤_, _<_}
@@ -12,7 +12,7 @@ use Rattle.algebra.specs.Poly.{pzero, const}
 use Rattle.algebra.specs.Coprime.{Normal}
 use Rattle.algebra.specs.Euclid.{Stopped}
 use Rattle.decoding.specs.Code.{Code, syndrome, ε, Λ, Ω}
-use Rattle.decoding.specs.Words.{Same, distance, error, Codeword, Near}
+use Rattle.decoding.specs.Words.{Same, distance, error, Codeword, Near, Listing}
 use Rattle.decoding.specs.KeyEquation.{Key}
 use Rattle.decoding.specs.Setting.{minimum-distance, Accepted}
 use Rattle.decoding.specs.Rational.{Root}
@@ -69,6 +69,15 @@ module _ (𝓕 : Field) where
       (C : Code 𝓕) (k τ s ℓ : ℕ) → k + C .D ≡ C .n → Accepted (C .n) k τ s ℓ → (r : ℕ → El) (T : WordRows C r)
       → (m : ℕ) (F₁ F₂ : ℕ → ℕ → El) → Pairs 𝓕 C T τ s ℓ (Among m F₁ F₂) → (c : ℕ → El)
       → ((i : ℕ) × (i < m) × Passes 𝓕 C k τ r (located (𝓕 .ring) (T .P .b) (T .L .b) (F₁ i) (F₂ i)) c) ↔ Near 𝓕 C k τ r c
+
+  -- So the words that are sifted from the right pairs, each kept once, are the list of all codewords within τ, and are ℓ at most
+  abbrev pub SiftedListing : Type 0
+  SiftedListing =
+      (C : Code 𝓕) (k τ s ℓ : ℕ) → k + C .D ≡ C .n → Accepted (C .n) k τ s ℓ → (r : ℕ → El) (T : WordRows C r)
+      → (p : ℕ) (F₁ F₂ : ℕ → ℕ → El) → Pairs 𝓕 C T τ s ℓ (Among p F₁ F₂)
+      → (m : ℕ) (W : ℕ → ℕ → El) → ((i : ℕ) → i < m → Sifted 𝓕 C T k τ r (Among p F₁ F₂) (W i))
+      → ((c : ℕ → El) → Sifted 𝓕 C T k τ r (Among p F₁ F₂) c → (i : ℕ) × (i < m) × Same (C .n) c (W i))
+      → ((i j : ℕ) → i < j → j < m → Same (C .n) (W i) (W j) → ⊥) → Listing 𝓕 C k τ r m W × (m ≤ ℓ)
 
   -- The rational roots of any Q within the bounds are the normalised ones of the pairs at the leaves of the two walks, wherever Euclid's
   -- algorithm stops at a leaf

@@ -1,7 +1,7 @@
 // Generalised Reed-Solomon codes and their list decoding: definitions in specs/, proofs in proofs/. The functions have no work to do: the
 // contract of each is a theorem of specs/Theorems, so that a check asks for its proof.
 ghost use Rattle.algebra.specs.Field.{Field};
-ghost use Rattle.decoding.specs.Theorems.{MinimumDistance, KeyEquation, InterpolantExists, Complete, CompleteList, WalksFindRoots, AtMost};
+ghost use Rattle.decoding.specs.Theorems.{MinimumDistance, KeyEquation, InterpolantExists, Complete, CompleteList, SiftedListing, WalksFindRoots, AtMost};
 
 // Any field. A statement about all fields at once is too large to stand in a contract (it quantifies over types), so the functions are
 // generic in a type that has a field: what is proved for every such type is proved for every field.
@@ -41,6 +41,13 @@ pub fn complete_stands<F: OverField>() -> u8
 // The same for a list of pairs that has the right ones.
 pub fn complete_list_stands<F: OverField>() -> u8
     ensures { λ _. ⌜ CompleteList (F·OverField .field) ⌝ }
+{
+    0
+}
+
+// What is sifted from the right pairs, each word kept once, is the list of all codewords at distance at most τ, and has ℓ entries at most.
+pub fn sifted_listing_stands<F: OverField>() -> u8
+    ensures { λ _. ⌜ SiftedListing (F·OverField .field) ⌝ }
 {
     0
 }
