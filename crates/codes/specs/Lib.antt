@@ -2,3 +2,4 @@ pub mod Valid
 pub mod First
 pub mod Settings
 pub mod Opening
+pub mod Codewords

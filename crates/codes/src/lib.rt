@@ -3,6 +3,7 @@ ghost use lib.ListN.{length};
 ghost use Rattle.codes.specs.Valid.{Places, Dimension, NonZero, Distinct};
 
 mod checking;
+mod issuing;
 mod parts;
 mod settings;
 
