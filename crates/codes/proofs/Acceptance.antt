@@ -13,7 +13,8 @@ use mir.Syntax.{w32}
 use Rattle.std.specs.Orderings.{Decides}
 use Rattle.std.proofs.shelf.Ways.{tells, decides-and, decides-or, decides-ltb, decides-like}
 use Rattle.decoding.specs.Setting.{minimum-distance, Reach, Accepted}
-use Rattle.codes.specs.Settings.{conditions, reaches, workable, accepts}
+use Rattle.decoding.proofs.Setting.{below-distance, enough-left, multiplicity-below}
+use Rattle.codes.specs.Settings.{conditions, reaches, workable, accepts, Consequences}
 
 -- the sum in the rule fits 32 bits for any bytes
 pub sum-fits : (n s l x : ℕ) → n < 256 → s < 256 → l < 256 → x < 512 → Fits w32 (n * (s * (s + 1)) + l * (l + 1) * x)
@@ -78,3 +79,7 @@ exact n k τ s ℓ =
     (decides-and _ _ (decides-and _ _ (decides-leb 1 k) (decides-ltb k n))
     (decides-and _ _ (decides-and _ _ (decides-and _ _ (decides-leb 1 s) (decides-and _ _ (decides-leb s ℓ) (decides-leb ℓ 8))) (within-400 n s))
     (reach n (minimum-distance n k) τ s ℓ)))
+
+pub consequences : (n k τ s ℓ : ℕ) → Accepted n k τ s ℓ → Consequences n k τ s ℓ
+consequences n k τ s ℓ a =
+    record { below-distance = below-distance a; enough-left = enough-left a; multiplicity-below = multiplicity-below a }

@@ -2,3 +2,4 @@ pub mod Acceptance
 pub mod Firsts
 pub mod Opened
 pub mod Issued
+pub mod Proposals

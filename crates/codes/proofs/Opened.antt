@@ -19,7 +19,7 @@ use Rattle.codes.specs.First.{or-else, when, first-below}
 use Rattle.codes.specs.Settings.{accepts}
 use Rattle.codes.specs.Opening.{Given, unfit, repeats, first-unfit, first-repeat, count-fault, threshold-fault, place-fault, setting-fault, first-fault}
 use Rattle.codes.proofs.Acceptance.{exact}
-use Rattle.codes.proofs.Firsts.{when-none, or-else-none, mapped-none, below-none}
+use Rattle.codes.proofs.Firsts.{when-none, or-else-none, mapped-none, below-none, none-of}
 
 -- the first n numbers of an array that begins with a list of n numbers
 pub front : (n : ℕ) (xs ys : List ℕ) → take n ys ≡ xs → (i : ℕ) → i < n → getD ys i 0 ≡ getD xs i 0
@@ -41,10 +41,6 @@ fit q x e = grind (arith, tells)
 pub non-zero : (q n : ℕ) (xs ys : List ℕ) → n ≡ length xs → take n ys ≡ xs → first-unfit q xs ≡ None → NonZero q n ys
 non-zero q n xs ys l t e i h =
     fit q (getD ys i 0) (ap (λ (x : ℕ). eqb x 0 || leb q x) (front n xs ys t i h) ∙ below-none (length xs) (unfit q xs) e i (omega arith))
-
-none-of : {A : Type 0} (o : Option A) → isSome o ≡ false → o ≡ None
-none-of None e = refl
-none-of (Some x) e = absurd (let z : _≡_ {A = ℕ} 0 1 = cc in omega arith)
 
 apart : (xs : List ℕ) (i j : ℕ) → i < j → repeats xs j ≡ false → getD xs i 0 ≡ getD xs j 0 → ⊥
 apart xs i j h e = eqb-false _ _ (below-none j (λ (m : ℕ). eqb (getD xs m 0) (getD xs j 0)) (none-of _ e) i h)

@@ -1,5 +1,7 @@
 -- The first of some numbers that has an answer: over the n numbers i, i + 1, .. in their order.
 use mathlib.Core.Bool.{Bool, cond}
+use Rattle.std.specs.declared.result.Result.{Result}
+use Rattle.std.specs.declared.result.Result.the-variants.{Err}
 use Prim.Native.Nat.{ℕ, zero, suc, _+_}
 use Rattle.std.specs.declared.option.Option.{Option}
 use Rattle.std.specs.declared.option.Option.the-variants.{None, Some}
@@ -25,3 +27,8 @@ first-below n test = first-of (λ i. when (test i) i) 0 n
 abbrev pub mapped : {A B : Type 0} → (A → B) → Option A → Option B
 mapped f None = None
 mapped f (Some x) = Some (f x)
+
+-- the fault, if there is one, else the answer
+abbrev pub unless : {A E : Type 0} → Option E → Result A E → Result A E
+unless None r = r
+unless (Some e) r = Err e

@@ -5,7 +5,11 @@ ghost use Rattle.codes.specs.Valid.{Places, Dimension, NonZero, Distinct};
 mod checking;
 mod issuing;
 mod parts;
+mod proposing;
 mod settings;
+
+pub use issuing::issue;
+pub use proposing::propose;
 
 // A radius τ, a multiplicity s and a list limit ℓ.
 #[derive(Clone, Copy)]

@@ -1,7 +1,8 @@
 ghost use mathlib.Core.Path.{_≡_};
+ghost use mathlib.Core.Bool.{true};
 ghost use Prim.Native.Nat.{_≤_, _<_};
 ghost use Rattle.std.specs.Orderings.{Decides};
-ghost use Rattle.codes.specs.Settings.{conditions, workable, reaches, accepts, small};
+ghost use Rattle.codes.specs.Settings.{conditions, workable, reaches, accepts, small, Consequences};
 ghost use Rattle.decoding.specs.Setting.{Accepted};
 use crate::Setting;
 
@@ -41,6 +42,7 @@ impl Setting {
     // Whether the setting may be used with a code of n places and the threshold k.
     pub fn is_accepted(self, n: u8, k: u8) -> bool
         ensures computed { λ r. ⌜ r ≡ accepts n k (self .radius) (self .multiplicity) (self .«list_limit») ⌝ }
+        ensures follows { λ r. ⌜ (r ≡ true → Consequences n k (self .radius) (self .multiplicity) (self .«list_limit»)) ⌝ }
         ensures exact { λ r. ⌜ Decides r (Accepted n k (self .radius) (self .multiplicity) (self .«list_limit»)) ⌝ }
     {
         self.passes(n, k)
