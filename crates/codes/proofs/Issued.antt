@@ -49,8 +49,8 @@ written-more f i y before now h e w =
     ∙ set-at (map f (counting 0 i)) (getD before i 0) (drop (i + 1) before) y i l
     ∙ ap (λ (z : ℕ). map f (counting 0 i) ++ z ∷ drop (i + 1) before) e
     ∙ sym
-      (ap (λ (xs : List ℕ). xs ++ drop (i + 1) before) (map-counting-more f 0 i i (omega arith))
-       ∙ append-assoc (map f (counting 0 i)) (f i ∷ []) (drop (i + 1) before))
+    (ap (λ (xs : List ℕ). xs ++ drop (i + 1) before) (map-counting-more f 0 i i (omega arith))
+    ∙ append-assoc (map f (counting 0 i)) (f i ∷ []) (drop (i + 1) before))
 
 -- the word of lists that are read stands in front of the rest of the area
 pub placed : (F : Numbers) (points points′ multipliers multipliers′ message before now : List ℕ) → points ≡ points′ → multipliers ≡ multipliers′
@@ -59,7 +59,7 @@ pub placed : (F : Numbers) (points points′ multipliers multipliers′ message 
 placed F points points′ multipliers multipliers′ message before now p m e =
     e
     ∙ ap (λ (j : ℕ). codeword F points multipliers message ++ drop j before)
-      (sym (length-map-counting (at-place F points multipliers message) 0 (length points)))
+    (sym (length-map-counting (at-place F points multipliers message) 0 (length points)))
     ∙ ap (λ (xs : List ℕ). area-after None (codeword F xs multipliers message) before) p
     ∙ ap (λ (xs : List ℕ). area-after None (codeword F points′ xs message) before) m
 
@@ -68,5 +68,5 @@ pub accepted : (q q′ n k k′ m : ℕ) (message : List ℕ) → q′ ≡ q →
 accepted q q′ n k k′ m message a b e h =
     sym
     (ap (λ (o : Option ListingFault). or-else o (when (ltb m n) (ResultArea m)))
-     (ap (λ (z : ℕ). message-fault z k message) (sym a) ∙ ap (λ (z : ℕ). message-fault q′ z message) (sym b) ∙ sym e)
-     ∙ when-false (ltb m n) (ResultArea m) (le-ltb m n h))
+    (ap (λ (z : ℕ). message-fault z k message) (sym a) ∙ ap (λ (z : ℕ). message-fault q′ z message) (sym b) ∙ sym e)
+    ∙ when-false (ltb m n) (ResultArea m) (le-ltb m n h))

@@ -3,3 +3,5 @@ pub mod Firsts
 pub mod Opened
 pub mod Issued
 pub mod Proposals
+pub mod Meanings
+pub mod Examples

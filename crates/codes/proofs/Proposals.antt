@@ -70,13 +70,14 @@ smallest n k τ s ℓ a less short = record { radius = refl; accepted = a; least
   where
     limit : (t m : ℕ) → Accepted n k τ t m → s ≡ t → ℓ ≤ m
     limit t m b e =
-        elim (decLt m ℓ)
-        [ yes u ↦
-          absurd
-          (let o : t ≤ m = b .order in
-           let p : 1 ≤ t = b .multiplicity in
-           never (ap (λ (z : ℕ). accepted-setting n k τ z m) e ∙ found n k τ t m b) (short m (omega arith) u))
-        | no u ↦ omega arith ]
+        elim (decLt m ℓ) [
+          | yes u ↦
+              absurd
+              (let o : t ≤ m = b .order in
+              let p : 1 ≤ t = b .multiplicity in
+              never (ap (λ (z : ℕ). accepted-setting n k τ z m) e ∙ found n k τ t m b) (short m (omega arith) u))
+          | no u ↦ omega arith
+        ]
 
     go : (t m : ℕ) → Accepted n k τ t m → (s ≡ t) ⊎ ((s < t) ⊎ (t < s)) → (s < t) ⊎ ((s ≡ t) × (ℓ ≤ m))
     go t m b (inl e) = inr (e, limit t m b e)

@@ -3,3 +3,4 @@ pub mod First
 pub mod Settings
 pub mod Opening
 pub mod Codewords
+pub mod Worked

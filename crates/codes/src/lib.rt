@@ -7,6 +7,7 @@ mod issuing;
 mod parts;
 mod proposing;
 mod settings;
+pub mod theorems;
 
 pub use issuing::issue;
 pub use proposing::propose;

@@ -12,9 +12,9 @@ pub returns-then-x-q : need.returns-then-x-q
 returns-then-x-q c =
     record {
       is =
-        sym
-        (left-found _ 0 (length (c .args .xs .now)) (length (c .args .xs .now)) (c .loop-i .i) (c .loop-i .i) (omega arith)
-         (when-true _ _ (le-leb _ _ (c .if-x-q .taken))) (c .loop-i .inv));
+          sym
+          (left-found _ 0 (length (c .args .xs .now)) (length (c .args .xs .now)) (c .loop-i .i) (c .loop-i .i) (omega arith)
+          (when-true _ _ (le-leb _ _ (c .if-x-q .taken))) (c .loop-i .inv));
       within = omega arith;
     }
 

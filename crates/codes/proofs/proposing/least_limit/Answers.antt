@@ -14,17 +14,17 @@ unfolding least-limit
 returns-then-is-accepted c =
     sym
     (left-found (accepted-setting (c .args .n) (c .args .k) (c .args .radius) (c .args .multiplicity)) 1 8 9 (c .loop-list-limit .list-limit)
-     (setting (c .args .radius) (c .args .multiplicity) (c .loop-list-limit .list-limit)) (omega arith)
-     (taken (c .args .n) (c .args .k) (c .args .radius) (c .args .multiplicity) (c .loop-list-limit .list-limit)
-      (sym (c .is-accepted .ensures .computed) ∙ c .if-is-accepted .taken))
-     (c .loop-list-limit .inv))
+    (setting (c .args .radius) (c .args .multiplicity) (c .loop-list-limit .list-limit)) (omega arith)
+    (taken (c .args .n) (c .args .k) (c .args .radius) (c .args .multiplicity) (c .loop-list-limit .list-limit)
+    (sym (c .is-accepted .ensures .computed) ∙ c .if-is-accepted .taken))
+    (c .loop-list-limit .inv))
 
 pub loop-list-limit-again : need.loop-list-limit-again
 unfolding least-limit
 loop-list-limit-again c =
     left-more (accepted-setting (c .args .n) (c .args .k) (c .args .radius) (c .args .multiplicity)) 1 8 9 (c .loop-list-limit .list-limit) (omega arith)
     (passed (c .args .n) (c .args .k) (c .args .radius) (c .args .multiplicity) (c .loop-list-limit .list-limit)
-     (sym (c .is-accepted .ensures .computed) ∙ c .if-is-accepted .left))
+    (sym (c .is-accepted .ensures .computed) ∙ c .if-is-accepted .left))
     (c .loop-list-limit .inv)
 
 pub returns : need.returns
@@ -32,4 +32,4 @@ unfolding least-limit
 returns c =
     sym
     (left-all (accepted-setting (c .args .n) (c .args .k) (c .args .radius) (c .args .multiplicity)) 1 8 9 (c .loop-list-limit .list-limit) (omega arith)
-     (c .loop-list-limit .inv))
+    (c .loop-list-limit .inv))

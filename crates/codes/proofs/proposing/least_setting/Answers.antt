@@ -13,7 +13,7 @@ unfolding least-setting
 returns-then-is-some c =
     sym
     (left-some (least-limit (c .args .n) (c .args .k) (c .args .radius)) 1 8 9 (c .loop-multiplicity .multiplicity) (c .least-limit-found .result) (omega arith)
-     (sym (c .least-limit-found .ensures)) (sym (c .is-some .ensures) ∙ c .if-is-some .taken) (c .loop-multiplicity .inv))
+    (sym (c .least-limit-found .ensures)) (sym (c .is-some .ensures) ∙ c .if-is-some .taken) (c .loop-multiplicity .inv))
 
 pub loop-multiplicity-again : need.loop-multiplicity-again
 unfolding least-setting

@@ -16,5 +16,5 @@ returns c =
     record {
       is = c .ok-or .ensures .value ∙ proposed n k τ found (omega arith) (omega arith) (omega arith) (omega arith) (c .least-setting .ensures);
       means =
-        subst (λ (r : Result Setting CodeFault). Proposed n k τ r) (sym (c .ok-or .ensures .value)) (meaning n k τ found (c .least-setting .ensures));
+          subst (λ (r : Result Setting CodeFault). Proposed n k τ r) (sym (c .ok-or .ensures .value)) (meaning n k τ found (c .least-setting .ensures));
     }

@@ -1,0 +1,17 @@
+// Theorems over the definitions of specs/. The functions have no work to do: the contract of each is a theorem, so that a check asks for its proof.
+ghost use Rattle.codes.specs.Codewords.{Codewords-meant};
+ghost use Rattle.codes.specs.Worked.{Worked-settings};
+
+// A valid code is a code of the decoder's theory, and its codewords are the theory's.
+pub fn codewords_stand() -> u8
+    ensures { λ _. ⌜ Codewords-meant ⌝ }
+{
+    0
+}
+
+// Which settings are accepted and proposed in some cases.
+pub fn worked_settings_stand() -> u8
+    ensures { λ _. ⌜ Worked-settings ⌝ }
+{
+    0
+}
