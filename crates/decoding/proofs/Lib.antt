@@ -1,3 +1,4 @@
+-- In reading order. The theorems that functions state are put together in Theorems; docs/DECODER.md tells the proof in words.
 pub mod Words
 pub mod KeyEquation
 pub mod Pair

@@ -14,6 +14,7 @@ use Rattle.algebra.specs.Sums.{total}
 use Rattle.algebra.specs.Poly.{conv, lin}
 use Rattle.decoding.specs.Multiplicity.{Slope, expansion, functional}
 
+-- an interpolation problem: what a row may have, and the constraints of each place
 pub record Problem (A : Type 0) : Type 0 where
   pub ℓ : ℕ
   -- the weight of a position, and the bound on the weighted degrees
@@ -34,6 +35,7 @@ module _ (𝓕 : Field) (P : Problem (𝓕 .ring .El)) where
   abbrev pub Live : (ℕ → ℕ) → ℕ → Type 0
   Live e j = e j + W j < B
 
+  -- the functional of the constraint (i, a, b), at a row Q
   abbrev pub value : ℕ → ℕ → ℕ → (ℕ → ℕ → El) → El
   value i a b Q = functional (𝓕 .ring) ℓ B (α i) (c i b) a Q
 
@@ -97,10 +99,11 @@ module _ (𝓕 : Field) (P : Problem (𝓕 .ring .El)) where
     pub degrees : (t m : ℕ) → t ≤ ℓ → B ≤ m + W t → Q t m ≡ 𝟘
     pub holds : (i a b : ℕ) → D i a b → value i a b Q ≡ 𝟘
 
--- of a constraint the one with a less by one is done before it
+-- of each constraint that is done, the one with a less by one is done
 abbrev pub Closed : (ℕ → ℕ → ℕ → Type 0) → Type 0
 Closed D = (i a b : ℕ) → D i (suc a) b → D i a b
 
+-- and of the next constraint too
 abbrev pub Next : (ℕ → ℕ → ℕ → Type 0) → ℕ → ℕ → ℕ → Type 0
 Next D i a b = (a′ : ℕ) → a ≡ suc a′ → D i a′ b
 

@@ -1,3 +1,4 @@
+-- In reading order: codes and words, the key equation, the interpolant, rational roots, settings, the sift, the walk, and the theorems.
 pub mod Code
 pub mod Words
 pub mod KeyEquation

@@ -27,6 +27,7 @@ module _ (R : Ring) where
   unfoldable pub functional : ℕ → ℕ → El → (ℕ → El) → ℕ → (ℕ → ℕ → El) → El
   functional ℓ n α c a Q = sum R (suc ℓ) (λ t. c t ⊗ taylor R n α (Q t) a)
 
+  -- all coefficients of x ^ a u ^ b with a + b < s of the expansion at (α, σ) are zero
   abbrev pub Multiplicity : ℕ → ℕ → ℕ → El → Slope El → (ℕ → ℕ → El) → Type 0
   Multiplicity s ℓ n α σ Q = (a b : ℕ) → a + b < s → functional ℓ n α (expansion ℓ σ b) a Q ≡ 𝟘
 

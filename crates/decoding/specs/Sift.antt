@@ -12,6 +12,7 @@ use Rattle.algebra.specs.Poly.{conv, padd, at, Degree}
 use Rattle.decoding.specs.Code.{Code}
 use Rattle.decoding.specs.Words.{Near}
 
+-- the locator, but for a constant, that the pair (f₁, f₂) stands for
 abbrev pub located : (R : Ring) → (ℕ → R .El) → (ℕ → R .El) → (ℕ → R .El) → (ℕ → R .El) → ℕ → R .El
 located R h₁ h₂ f₁ f₂ = padd R (conv R f₁ h₁) (conv R f₂ h₂)
 
