@@ -23,7 +23,7 @@ use Rattle.collections.specs.declared.Opened.{Opened}
 use Rattle.collections.specs.declared.State.{State}
 use Rattle.collections.specs.declared.State.the-variants.{Blank, Open}
 use Rattle.collections.specs.declared.Kept.{Kept}
-use Rattle.collections.specs.Book.{Book, unopened, opened, Act, opening, entering, withdrawing, reading, ofCode, placeCheck, placeIn, numberCheck, otherCheck, nothingCheck, check, writes, putting, accepts, saidBy, leftBy, Said, done, Right}
+use Rattle.collections.specs.Book.{Book, unopened, opened, Act, opening, entering, withdrawing, reading, blankCheck, ofCode, placeCheck, placeIn, numberCheck, otherCheck, nothingCheck, check, writes, putting, accepts, saidBy, leftBy, Said, done, Right}
 use Rattle.collections.specs.Standing.{givenOf, page, standing, share, shares, TellsPlace}
 
 -- an accepted call
@@ -127,12 +127,11 @@ given-is q g o h e =
     ∙ ap (λ (x : ℕ). given-as (g .points) (g .multipliers) x (o .setting)) (h .threshold)
     ∙ ap (given-as (g .points) (g .multipliers) (g .threshold)) e
 
-pub opens : (q : ℕ) (s : State) (at : List Place) (g : Given) (o : Opened) (new : List Place) → s ≡ Blank → None ≡ first-fault q g → Holds q g (o .code) → o .setting ≡ g .setting → new ≡ replicate 32 Empty → Right q (page s at) (opening g) done (page (Open o) new)
-opens q s at g o new e f h k z =
-    let blank : page s at ≡ unopened = ap (λ (t : State). page t at) e in
+pub opens : (q : ℕ) (b : Book) (g : Given) (o : Opened) (new : List Place) → None ≡ blankCheck b → None ≡ first-fault q g → Holds q g (o .code) → o .setting ≡ g .setting → new ≡ replicate 32 Empty → Right q b (opening g) done (page (Open o) new)
+opens q b g o new e f h k z =
     let few = o .code .places .1 in
     let empties : take (o .code .count) new ≡ replicate (length (g .points)) Empty =
     ap (take (o .code .count)) z ∙ take-replicate (o .code .count) 32 Empty few ∙ ap (λ (n : ℕ). replicate n Empty) (h .count) in
-    takes q (page s at) (opening g) (page (Open o) new)
-    (ap (λ (b : Book). check q b (opening g)) blank ∙ sym (ap ofCode f))
+    takes q b (opening g) (page (Open o) new)
+    (sym (ap (λ (x : Option CollectionFault). or-else x (ofCode (first-fault q g))) e) ∙ sym (ap ofCode f))
     (ap (λ (x : Given). opened x (take (o .code .count) new)) (given-is q g o h k) ∙ ap (opened g) empties)

@@ -16,7 +16,7 @@ use Rattle.codes.specs.First.{or-else, when}
 use Rattle.codes.specs.Opening.{Given, first-fault}
 use Rattle.collections.specs.declared.Place.{Place}
 use Rattle.collections.specs.declared.Place.the-variants.{Empty, Filled}
-use Rattle.collections.specs.Book.{Book, unopened, opened, Act, opening, entering, withdrawing, reading, ofCode, placeCheck, placeIn, numberCheck, otherCheck, check, writes, accepts, saidBy, leftBy, Said, Right, Fits, AllFit, FairPage, Fair}
+use Rattle.collections.specs.Book.{Book, unopened, opened, Act, opening, entering, withdrawing, reading, blankCheck, ofCode, placeCheck, placeIn, numberCheck, otherCheck, check, writes, accepts, saidBy, leftBy, Said, Right, Fits, AllFit, FairPage, Fair}
 
 pub no-fault : {E : Type 0} (f : E) → Some f ≡ None → ⊥
 no-fault f e = let z : _≡_ {A = ℕ} 0 1 = cc in omega arith
@@ -59,7 +59,7 @@ fair-set q g ps p x h f = record { passed = f .passed; count = length-set ps p x
 
 pub fair-writes : (q : ℕ) (b : Book) (act : Act) → check q b act ≡ None → Fair q b → Fair q (writes b act)
 fair-writes q unopened (opening g) e f = record {
-  passed = code-passed (first-fault q g) e;
+  passed = code-passed (first-fault q g) (neither-right (blankCheck unopened) (ofCode (first-fault q g)) e);
   count = length-replicate (length (g .points)) Empty;
   elements = fit-none q (length (g .points));
 }

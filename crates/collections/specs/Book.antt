@@ -37,14 +37,15 @@ pub data Act : Type 0 where
   withdrawing : ℕ → Act
   reading : ℕ → Act
 
--- 21, then 1 to 6
+-- 1 to 6
 abbrev pub ofCode : Option CodeFault → Option CollectionFault
 ofCode (Some f) = Some (Code f)
 ofCode None = None
 
-abbrev pub openCheck : ℕ → Book → Given → Option CollectionFault
-openCheck q unopened g = ofCode (first-fault q g)
-openCheck q (opened _ _) g = Some AlreadyOpen
+-- 21
+abbrev pub blankCheck : Book → Option CollectionFault
+blankCheck unopened = None
+blankCheck (opened g ps) = Some AlreadyOpen
 
 -- 20, then 7: what every call at a place begins with
 abbrev pub placeCheck : Book → ℕ → Option CollectionFault
@@ -67,7 +68,7 @@ nothingCheck p (Filled w) = None
 
 -- the first check that refuses, in the order of each call
 abbrev pub check : ℕ → Book → Act → Option CollectionFault
-check q b (opening g) = openCheck q b g
+check q b (opening g) = or-else (blankCheck b) (ofCode (first-fault q g))
 check q b (entering p v) = or-else (placeCheck b p) (or-else (numberCheck q p v) (otherCheck p v (placeIn b p)))
 check q b (withdrawing p) = or-else (placeCheck b p) (nothingCheck p (placeIn b p))
 check q b (reading p) = placeCheck b p

@@ -1,6 +1,6 @@
 ghost use mathlib.Core.Path.{_≡_};
-ghost use Rattle.codes.specs.Opening.{given};
-ghost use Rattle.collections.specs.Book.{Right, unopened, opening, entering, withdrawing, reading};
+ghost use Rattle.codes.specs.Opening.{given, fault-of};
+ghost use Rattle.collections.specs.Book.{Right, unopened, blankCheck, opening, entering, withdrawing, reading};
 ghost use Rattle.collections.specs.Standing.{standing, saidPlace, Sound, Judged, TellsOpened};
 use crate::Collection;
 use crate::Kept;
@@ -49,6 +49,13 @@ impl<F: Field> Collection<F> {
         ensures { λ r. ⌜ Right (F·Field .numbers .q) (standing (now (self .entry) .kept)) (reading place) (saidPlace r) (standing (now (self .entry) .kept)) ⌝ }
     {
         self.kept.read(place)
+    }
+
+    // Refuses a collection that is open.
+    pub fn still_blank(&self) -> Result<(), CollectionFault>
+        ensures { λ r. ⌜ fault-of r ≡ blankCheck (standing (now (self .entry) .kept)) ⌝ }
+    {
+        self.kept.still_blank()
     }
 
     // What the collection was opened with, refused while it is blank.

@@ -1,7 +1,7 @@
 ghost use mathlib.Core.Path.{_≡_};
 ghost use Prim.Native.Nat.{ℕ};
-ghost use Rattle.codes.specs.Opening.{given};
-ghost use Rattle.collections.specs.Book.{unopened, opening, entering, withdrawing};
+ghost use Rattle.codes.specs.Opening.{given, fault-of};
+ghost use Rattle.collections.specs.Book.{unopened, blankCheck, opening, entering, withdrawing};
 ghost use Rattle.collections.specs.Standing.{standing, Judged, TellsOpened, TellsPlace};
 use crate::Kept;
 use crate::Opened;
@@ -32,6 +32,16 @@ impl Kept {
         }
     }
 
+    // Refuses a collection that is open.
+    pub(crate) fn still_blank(&self) -> Result<(), CollectionFault>
+        ensures { λ r. ⌜ fault-of r ≡ blankCheck (standing (now (self .entry))) ⌝ }
+    {
+        match self.opened() {
+            Ok(_) => Err(CollectionFault::AlreadyOpen),
+            Err(_) => Ok(()),
+        }
+    }
+
     // What a place has.
     pub(crate) fn read(&self, place: usize) -> Result<Place, CollectionFault>
         ensures { λ r. ⌜ TellsPlace (standing (now (self .entry))) place r ⌝ }
@@ -46,9 +56,7 @@ impl Kept {
     pub(crate) fn open(&mut self, q: u16, o: Opening<'_>) -> Result<(), CollectionFault>
         ensures { λ r. ⌜ Judged q (now (self .entry)) (opening (given (o .entry))) r (now (self .exit)) ⌝ }
     {
-        if let State::Open(_) = self.state {
-            return Err(CollectionFault::AlreadyOpen);
-        }
+        self.still_blank()?;
         let code = o.check(q)?;
         *self = Kept {
             state: State::Open(Opened {

@@ -1,6 +1,8 @@
+mod loading;
 mod reading;
 
 use codes::Setting;
+pub use loading::load;
 pub use reading::ReaderSource;
 
 // A sheet that is read from the caller's bytes, where its entries stay.

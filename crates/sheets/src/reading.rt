@@ -34,7 +34,8 @@ fn share(number: u16) -> Option<u16>
 fn column(entries: &[u8], part: usize) -> [u16; 255]
     requires { ⌜ part ≤ 4 ⌝ }
     requires { ⌜ length (now entries) ≤ 6 * 255 ⌝ }
-    ensures { λ r. ⌜ take (length (now (entries .entry)) / 6) r ≡ column-in (now (entries .entry)) part (length (now (entries .entry)) / 6) ⌝ }
+    ensures length { λ r. ⌜ length r ≡ 255 ⌝ }
+    ensures front { λ r. ⌜ take (length (now (entries .entry)) / 6) r ≡ column-in (now (entries .entry)) part (length (now (entries .entry)) / 6) ⌝ }
 {
     let mut numbers = [0; 255];
     for p in 0..entries.len() / 6 {
@@ -115,7 +116,8 @@ impl<'a> Reader<'a> {
     // The points of all places; what stands behind them means nothing.
     pub fn points(&self) -> [u16; 255]
         requires { ⌜ Short (now self) ⌝ }
-        ensures { λ r. ⌜ take (meant (now (self .entry)) .count) r ≡ given-in (meant (now (self .entry))) .points ⌝ }
+        ensures length { λ r. ⌜ length r ≡ 255 ⌝ }
+        ensures front { λ r. ⌜ take (meant (now (self .entry)) .count) r ≡ given-in (meant (now (self .entry))) .points ⌝ }
     {
         column(self.entries, 0)
     }
@@ -123,7 +125,8 @@ impl<'a> Reader<'a> {
     // The multipliers of all places; what stands behind them means nothing.
     pub fn multipliers(&self) -> [u16; 255]
         requires { ⌜ Short (now self) ⌝ }
-        ensures { λ r. ⌜ take (meant (now (self .entry)) .count) r ≡ given-in (meant (now (self .entry))) .multipliers ⌝ }
+        ensures length { λ r. ⌜ length r ≡ 255 ⌝ }
+        ensures front { λ r. ⌜ take (meant (now (self .entry)) .count) r ≡ given-in (meant (now (self .entry))) .multipliers ⌝ }
     {
         column(self.entries, 2)
     }
