@@ -1,3 +1,2 @@
 pub mod Book
 pub mod Standing
-pub mod Issuing

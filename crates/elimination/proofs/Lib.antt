@@ -1,0 +1,4 @@
+pub mod Chooses
+pub mod Sweeps
+pub mod Advances
+pub mod Steps
