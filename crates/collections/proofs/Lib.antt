@@ -1,2 +1,3 @@
 pub mod Booked
 pub mod Fairness
+pub mod Issued

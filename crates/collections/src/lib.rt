@@ -4,6 +4,7 @@ ghost use lib.ListN.{length, getD, set, replicate};
 ghost use Rattle.collections.specs.declared.Place.the-variants.{Empty};
 
 pub mod calls;
+mod issuing;
 mod keeping;
 pub mod source;
 
