@@ -1,0 +1,2 @@
+pub mod Issuance
+pub mod Lines
