@@ -27,13 +27,6 @@ use Rattle.issuance.specs.Issuance.{over-fault}
 use Rattle.codes.proofs.Firsts.{when-false}
 use Rattle.codes.proofs.Issued.{at-place}
 
--- a list whose first n numbers are n numbers has them
-pub long : (n : ℕ) (f : ℕ → ℕ) (xs : List ℕ) → take n xs ≡ map f (counting 0 n) → n ≤ length xs
-long n f xs e =
-    let l : length (take n xs) ≡ n = ap length e ∙ length-map-counting f 0 n in
-    let m = length-take n xs in
-    omega arith
-
 abbrev pub given-by : List ℕ → List ℕ → ℕ → Setting → Given
 given-by points multipliers threshold setting = record { points = points; multipliers = multipliers; threshold = threshold; setting = setting }
 

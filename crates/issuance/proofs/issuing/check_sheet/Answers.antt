@@ -2,27 +2,23 @@ use mathlib.Core.Path.{_≡_, ap, _∙_, sym, subst}
 use mathlib.Core.List.{List}
 use Prim.Native.Nat.{ℕ, _≤_}
 use native.Mathlib.Omega.{arith}
-use lib.ListN.{length, take}
+use lib.ListN.{take}
 use Rattle.std.specs.Vec.{made}
 use Rattle.std.proofs.shelf.Counted.{length-map-counting}
 use Rattle.codes.specs.Opening.{Given, first-fault, Holds}
 use Rattle.sheets.specs.Sheet.{given-in}
 use Rattle.sheets.specs.Reading.{meant}
-use Rattle.issuance.proofs.Sheets.{long, given-by, same-given}
+use Rattle.issuance.proofs.Sheets.{given-by, same-given}
 use Rattle.issuance.proofs.issuing.check_sheet.Needs as need
 
 pub front-requires : need.front-requires
 front-requires c κs =
-    let n = meant (c .args .sheet .now) .count in
-    let e : c .count-n .result ≡ n = c .count-n .ensures ∙ length-map-counting _ 0 n in
-    let h : n ≤ length (c .points-points .result) = long n _ (c .points-points .result) (c .points-points .ensures) in
+    let e : c .count-n .result ≡ meant (c .args .sheet .now) .count = c .count-n .ensures ∙ length-map-counting _ 0 (meant (c .args .sheet .now) .count) in
     omega arith
 
 pub front-requires-2 : need.front-requires-2
 front-requires-2 c κs =
-    let n = meant (c .args .sheet .now) .count in
-    let e : c .count-n .result ≡ n = c .count-n .ensures ∙ length-map-counting _ 0 n in
-    let h : n ≤ length (c .multipliers-multipliers .result) = long n _ (c .multipliers-multipliers .result) (c .multipliers-multipliers .ensures) in
+    let e : c .count-n .result ≡ meant (c .args .sheet .now) .count = c .count-n .ensures ∙ length-map-counting _ 0 (meant (c .args .sheet .now) .count) in
     omega arith
 
 pub returns : need.returns
@@ -31,8 +27,8 @@ returns c =
     let s = meant (c .args .sheet .now) in
     let e : c .count-n .result ≡ s .count = c .count-n .ensures ∙ length-map-counting _ 0 (s .count) in
     let same : given-by (c .front .result .now) (c .front-2 .result .now) (c .threshold .result) (c .setting .result) ≡ given-in s =
-    same-given (c .front .ensures ∙ ap (λ (j : ℕ). take j (c .points-points .result)) e ∙ c .points-points .ensures)
-    (c .front-2 .ensures ∙ ap (λ (j : ℕ). take j (c .multipliers-multipliers .result)) e ∙ c .multipliers-multipliers .ensures) (c .threshold .ensures)
+    same-given (c .front .ensures ∙ ap (λ (j : ℕ). take j (c .points-points .result)) e ∙ c .points-points .ensures .front)
+    (c .front-2 .ensures ∙ ap (λ (j : ℕ). take j (c .multipliers-multipliers .result)) e ∙ c .multipliers-multipliers .ensures .front) (c .threshold .ensures)
     (c .setting .ensures) in
     record {
       fault = c .check .ensures .fault ∙ ap (first-fault q) same;
