@@ -1,3 +1,6 @@
 pub mod Counts
 pub mod Newton
 pub mod Splitting
+pub mod Gathering
+pub mod Recovery
+pub mod Outcome

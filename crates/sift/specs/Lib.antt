@@ -1,3 +1,4 @@
 pub mod Interpolation
 pub mod Roots
 pub mod Received
+pub mod Reading

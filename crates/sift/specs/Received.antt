@@ -1,5 +1,5 @@
 -- Received shares as lists of numbers, in this order: what is asked of the points, multipliers and shares; that a code has these points and
--- multipliers; how a message is issued at the places; and what the sift by a polynomial answers.
+-- multipliers; and what the sift by a polynomial answers, by the relation Passes of the decoding theory.
 use mathlib.Core.Path.{_≡_}
 use mathlib.Core.List.{List}
 use mathlib.Core.Logic.{_≢_}
@@ -23,7 +23,7 @@ abbrev pub Ends : ℕ → List ℕ → Type 0
 Ends m xs = (j : ℕ) → m ≤ j → getD xs j 0 ≡ 0
 
 -- a point, a multiplier and a share for each place, all elements; the points are distinct, and no point and no multiplier is 0
-pub record Received (F : Numbers) (αs vs rs : List ℕ) : Type 0 where
+pub record Placed (F : Numbers) (αs vs rs : List ℕ) : Type 0 where
   pub points : AllBelow (F .q) αs
   pub multipliers : AllBelow (F .q) vs
   pub shares : AllBelow (F .q) rs
@@ -52,7 +52,16 @@ module _ (F : Numbers) (C : Code (field-of F)) (k τ : ℕ) (r w : ℕ → Eleme
     pub apart : d ≡ distance (field-of F) (C .n) r (poly F word)
     pub only : (c : ℕ → Element F) → Passes (field-of F) C k τ r w c → Same (C .n) c (poly F word)
 
-  -- the answer: the distance of the word that passes, or that none passes
+  -- no word passes
+  abbrev pub NonePasses : Type 0
+  NonePasses = (c : ℕ → Element F) → Passes (field-of F) C k τ r w c → ⊥
+
+  -- what the sift finds: the distance of the word that passes, or that none passes
+  abbrev pub Found : Option ℕ → List ℕ → List ℕ → Type 0
+  Found (Some d) message word = Passed d message word
+  Found None message word = NonePasses
+
+  -- what the sift answers and leaves in the areas: zeros where no word passes
   abbrev pub Sifted : Option ℕ → List ℕ → List ℕ → Type 0
   Sifted (Some d) message word = Passed d message word
-  Sifted None message word = (c : ℕ → Element F) → Passes (field-of F) C k τ r w c → ⊥
+  Sifted None message word = NonePasses × Ends 0 message × Ends 0 word
