@@ -1,5 +1,7 @@
 -- How many coefficients the runs have while y moves on by e x ^ t.
 use mathlib.Core.Path.{_≡_, refl, sym, _∙_, ap, ap₂, subst, fun-ext}
+use mathlib.Core.List.{[], _∷_}
+use native.Mathlib.Decide.{ℕ-discrete}
 use Prim.Native.Nat.{ℕ, zero, suc, _+_, _-_, _*_, _≤_, _<_}
 use native.Mathlib.Omega.{arith}
 use native.Mathlib.Nat.{suc-mul, zero-mul}
@@ -7,7 +9,11 @@ use Rattle.algebra.specs.Ring.{Ring}
 use Rattle.algebra.specs.Poly.{conv, padd, pzero, const, mono, tail, cons, ev, Below}
 use Rattle.algebra.specs.PolyRing.{Poly}
 use Rattle.algebra.specs.Sums.{sum}
-use Rattle.algebra.specs.Taylor.{taylor}
+use Rattle.algebra.specs.Taylor.{tay, taylor}
+use Rattle.algebra.specs.Solve.{ring}
+use Rattle.algebra.specs.PolyForms.{forms}
+use Rattle.algebra.proofs.Taylor.{tay-same, tay-other}
+use Rattle.algebra.proofs.Sums.{sum-zero}
 use Rattle.algebra.specs.Division.{quot}
 use Rattle.algebra.specs.RingLaws as L
 use Rattle.algebra.proofs.Eval.{below-add, below-conv, below-tail}
@@ -38,6 +44,21 @@ module _ (R : Ring) where
   taylor-one ψ T h =
       taylor-sweep R ψ 0 T h
       ∙ fun-ext (elim [ zero ↦ ap (λ (s : ℕ → El). s 0) (sweep-none ψ T h) | suc i ↦ sym (h (suc i) (omega arith)) ])
+
+  -- no shift
+  pub taylor-none : (n : ℕ) (Q : ℕ → El) (b : ℕ) → b < n → taylor R n 𝟘 Q b ≡ Q b
+  unfolding taylor sum
+  taylor-none zero Q b h = absurd (let z : b < 0 = h in omega arith)
+  taylor-none (suc n) Q b h = go (ℕ-discrete n b) (λ k. taylor-none n Q b k)
+    where
+      go : Dec (n ≡ b) → (b < n → taylor R n 𝟘 Q b ≡ Q b) → sum R n (λ t. tay R 𝟘 t b ⊗ Q t) ⊕ tay R 𝟘 n b ⊗ Q n ≡ Q b
+      go (yes q) ih =
+          ap₂ _⊕_ (sum-zero R n (λ t. tay R 𝟘 t b ⊗ Q t) (λ t k. ap (λ z. z ⊗ Q t) (tay-other R t b (omega arith)) ∙ L.zero-mul R _))
+          (ap₂ (λ y z. tay R 𝟘 y b ⊗ Q z) q q ∙ ap (λ z. z ⊗ Q b) (tay-same R b))
+          ∙ ring R (Q b ∷ []) (search forms depth 20) tt
+      go (no q) ih =
+          ap₂ (λ y z. y ⊕ z ⊗ Q n) (ih (omega arith)) (tay-other R n b q)
+          ∙ ring R (Q b ∷ Q n ∷ []) (search forms depth 20) tt
 
   pub sweep-below : (ψ : El) (n : ℕ) (T : ℕ → El) → Below R (suc n) T → Below R (suc n) (sweep R ψ n T)
   sweep-below ψ zero T h i k = subst (Below R 1) (sym (sweep-none ψ T h)) h i k

@@ -11,7 +11,7 @@ use native.Mathlib.Decide.{decLt}
 use Rattle.algebra.specs.Poly.{conv, padd, pzero, mono, tail, cons, Below}
 use Rattle.algebra.specs.Solve.{ring}
 use Rattle.algebra.specs.PolyForms.{forms}
-use Rattle.algebra.proofs.Taylor.{taylor-add, taylor-none}
+use Rattle.algebra.proofs.Taylor.{taylor-add}
 use Rattle.algebra.specs.PolyRing.{Poly, const-conv}
 use Rattle.algebra.specs.Taylor.{taylor}
 use Rattle.algebra.proofs.Sweep.{sweep, taylor-sweep}
@@ -19,7 +19,7 @@ use Rattle.fields.specs.Numbers.{Numbers, AllBelow, Element, elem, ring-of, ele
 use Rattle.polynomials.specs.Series.{poly, Reads, plus-shifted}
 use Rattle.digits.specs.declared.Shape.{Shape}
 use Rattle.digits.specs.Runs.{run, runs, term, Fits, Held}
-use Rattle.digits.proofs.Bounds.{sweep-none, sweep-more, sweep-below, taylor-one, fits-sweep, fits-taylor}
+use Rattle.digits.proofs.Bounds.{sweep-none, sweep-more, sweep-below, taylor-one, taylor-none, fits-sweep, fits-taylor}
 use Rattle.digits.proofs.Arrays.{all-take, all-join, runs-cons, runs-below, poly-cut, shifted-term, fits-held, rest-of, held-rest, deep-one, wide-one, lent-take, lent-drop}
 
 module _ (F : Numbers) (s : Shape) (e t : ℕ) where
