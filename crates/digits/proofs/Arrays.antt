@@ -116,7 +116,7 @@ module _ (F : Numbers) where
   run-past w zero (x ∷ xs) h = absurd (let z = zero-mul w in omega arith)
   run-past w (suc b) xs h = run-past w b (drop w xs) (let z = suc-mul b w in let d = length-drop w xs in omega arith)
 
-  poly-none : poly F [] ≡ pzero (ring-of F)
+  pub poly-none : poly F [] ≡ pzero (ring-of F)
   unfolding pzero
   poly-none = fun-ext (λ k. poly-at F [] k)
 

@@ -1,7 +1,7 @@
 -- How many coefficients the runs have while y moves on by e x ^ t.
 use mathlib.Core.Path.{_≡_, refl, sym, _∙_, ap, ap₂, subst, fun-ext}
 use mathlib.Core.List.{[], _∷_}
-use native.Mathlib.Decide.{ℕ-discrete}
+use native.Mathlib.Decide.{ℕ-discrete, decLt}
 use Prim.Native.Nat.{ℕ, zero, suc, _+_, _-_, _*_, _≤_, _<_}
 use native.Mathlib.Omega.{arith}
 use native.Mathlib.Nat.{suc-mul, zero-mul}
@@ -59,6 +59,14 @@ module _ (R : Ring) where
       go (no q) ih =
           ap₂ (λ y z. y ⊕ z ⊗ Q n) (ih (omega arith)) (tay-other R n b q)
           ∙ ring R (Q b ∷ Q n ∷ []) (search forms depth 20) tt
+
+  pub taylor-same : (n : ℕ) (Q : ℕ → El) → Below R n Q → taylor R n 𝟘 Q ≡ Q
+  unfolding taylor
+  taylor-same n Q h =
+      fun-ext (λ b. elim (decLt b n) [
+        | yes l ↦ taylor-none n Q b l
+        | no l ↦ sum-zero R n (λ t. tay R 𝟘 t b ⊗ Q t) (λ t k. ap (λ z. z ⊗ Q t) (tay-other R t b (omega arith)) ∙ L.zero-mul R _) ∙ sym (h b (omega arith))
+      ])
 
   pub sweep-below : (ψ : El) (n : ℕ) (T : ℕ → El) → Below R (suc n) T → Below R (suc n) (sweep R ψ n T)
   sweep-below ψ zero T h i k = subst (Below R 1) (sym (sweep-none ψ T h)) h i k

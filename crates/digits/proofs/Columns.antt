@@ -108,7 +108,7 @@ module _ (F : Numbers) where
   written-rest (x ∷ xs) last v h =
       ap (λ (l : List ℕ). v ∷ (last ++ l)) (drop-all (suc (length xs) - 1) xs (omega arith)) ∙ ap (λ (l : List ℕ). v ∷ l) (append-nil last)
 
-  poly-cons : (v : ℕ) (xs : List ℕ) → poly F (v ∷ xs) ≡ cons (elem F v) (poly F xs)
+  pub poly-cons : (v : ℕ) (xs : List ℕ) → poly F (v ∷ xs) ≡ cons (elem F v) (poly F xs)
   unfolding poly
   poly-cons v xs = fun-ext (elim [ zero ↦ refl | suc i ↦ refl ])
 

@@ -5,3 +5,4 @@ pub mod Columns
 pub mod Spans
 pub mod Courses
 pub mod Turns
+pub mod Prefixes
