@@ -242,7 +242,7 @@ module _ (F : Numbers) where
       at zero = refl
       at (suc i) = ap (elem F) (zero-at n i)
 
-  start-before : (D : ℕ) → RowReads F (suc D) (start F D [] .before) (top (field-of F) D)
+  pub start-before : (D : ℕ) → RowReads F (suc D) (start F D [] .before) (top (field-of F) D)
   start-before D =
       record {
         a-below = up-below F D (1 ∷ []) (single-below 1 0 (F .laws .two));
@@ -253,7 +253,7 @@ module _ (F : Numbers) where
         b-is = zeros-read (suc D);
       }
 
-  start-last : (D : ℕ) (S : List ℕ) → AllBelow (F .q) S → length S ≡ suc D
+  pub start-last : (D : ℕ) (S : List ℕ) → AllBelow (F .q) S → length S ≡ suc D
       → RowReads F (suc D) (start F D S .last) (second (field-of F) (poly F S))
   start-last D S below long =
       record {
@@ -277,5 +277,5 @@ module _ (F : Numbers) where
 
 pub rows-stop : Rows-stop
 rows-stop F limit D S below long z c =
-    run-stops F limit D (poly F S) D (start F D S .before) (start F D S .last) (top (field-of F) D) (second (field-of F) (poly F S)) D 0 0
+    run-stops F limit D (poly F S) (suc D) (start F D S .before) (start F D S .last) (top (field-of F) D) (second (field-of F) (poly F S)) D 0 0
     (start-before F D) (start-last F D S below long) (Theory.start (field-of F) D (poly F S) (start-low F D S long z)) (λ i k. unfold pzero in refl) c (omega arith)

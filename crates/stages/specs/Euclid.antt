@@ -17,10 +17,16 @@ pub record Rows : Type 0 where
   pub before : Row
   pub last : Row
 
+abbrev pub row : List ℕ → List ℕ → Row
+row a b = record { a = a; b = b }
+
+abbrev pub two-rows : Row → Row → Rows
+two-rows P L = record { before = P; last = L }
+
 module _ (F : Numbers) where
   -- P - c x ^ k L
   abbrev pub row-less : ℕ → ℕ → Row → Row → Row
-  row-less c k L P = record { a = less F c k (L .a) (P .a); b = less F c k (L .b) (P .b) }
+  row-less c k L P = row (less F c k (L .a) (P .a)) (less F c k (L .b) (P .b))
 
   -- P less its quotient times L: where L.a has the degree m, multiples of x ^ (k - 1) L, .., L are taken from P, which clear the coefficients of
   -- x ^ (k - 1 + m), .., x ^ m in P.a one after another
@@ -37,16 +43,12 @@ module _ (F : Numbers) where
   run limit zero R = R
   run limit (suc n) R =
       cond (leb (size (R .last .a)) (limit (size (R .last .b) - 1))) R
-      (run limit n (record { before = R .last; last = next (R .before) (R .last) }))
+      (run limit n (two-rows (R .last) (next (R .before) (R .last))))
 
   -- (x ^ D, 0) and (S, -1)
   abbrev pub start : ℕ → List ℕ → Rows
-  start D S =
-      record {
-        before = record { a = replicate D 0 ++ 1 ∷ []; b = replicate (suc D) 0 };
-        last = record { a = S; b = F .neg 1 ∷ replicate D 0 };
-      }
+  start D S = two-rows (row (replicate D 0 ++ 1 ∷ []) (replicate (suc D) 0)) (row S (F .neg 1 ∷ replicate D 0))
 
-  -- the last two rows of the run on x ^ D and S
+  -- the last two rows of the run on x ^ D and S: no more steps than S has coefficients
   abbrev pub rows : (ℕ → ℕ) → ℕ → List ℕ → Rows
-  rows limit D S = run limit D (start D S)
+  rows limit D S = run limit (suc D) (start D S)

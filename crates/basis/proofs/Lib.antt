@@ -1,0 +1,5 @@
+mod Steps
+mod Falls
+mod Starts
+mod Powers
+mod Found
