@@ -1,3 +1,4 @@
 pub mod Loops
 pub mod Starts
 pub mod Solves
+pub mod Bases

@@ -89,7 +89,7 @@ module _ (F : Numbers) (S : Shape) (points ys zs : List ℕ) where
       → FirstRows F (suc (S .degree) * S .bound) (S .bound) rows₀ → FirstRanks (S .w1) (S .w2) ranks₀
       → Done F (suc (S .degree)) (S .bound) (S .multiplicity) points ys zs rows₀ ranks₀ rows ranks
       → p < length ranks → ((j : ℕ) → j < length ranks → getD ranks p 0 ≤ getD ranks j 0)
-      → Reads F out (poly F (run (suc (S .degree) * S .bound) rows p)) → Solution F S points ys zs out
+      → Reads F out (poly F (run (suc (S .degree) * S .bound) rows p)) → Solution F (problem F S points ys zs) (length points) (S .multiplicity) out
   solved rows₀ ranks₀ rows ranks out p long few₀ few enough r k d h least o =
       record {
         below = o .below;

@@ -6,13 +6,14 @@ ghost use lib.ListN.{length, getD};
 ghost use Rattle.fields.specs.Numbers.{AllBelow};
 ghost use Rattle.functionals.specs.Tables.{TaylorTable};
 ghost use Rattle.interpolant.specs.States.{Orders, Passed, Done};
-ghost use Rattle.interpolant.specs.Problems.{FirstRows, FirstRanks, Solution, Enough, room as cells};
+ghost use Rattle.interpolant.specs.Problems.{problem, basis-problem, Solution, Ratios, Decodes, FirstRows, FirstRanks, Enough, room as cells};
 use elimination::fetch;
 use elimination::step;
 use fields::Field;
 use functionals::slope_of;
 use functionals::taylor_table;
 use functionals::weight_table;
+use polynomials::evaluate;
 
 // What is asked of an interpolant: its degree in y and z, the multiplicity of its roots, the weights of z and y, and the bound on its weighted degrees.
 #[derive(Clone, Copy)]
@@ -201,7 +202,7 @@ pub fn interpolate_points<F: Field>(
     requires ranked { ⌜ length (now ranks) ≡ suc (shape .degree) ⌝ }
     requires space { ⌜ cells shape ≤ length (now work) ⌝ }
     requires enough { ⌜ Enough shape (length (now points)) ⌝ }
-    ensures { λ _. ⌜ Solution (F·Field .numbers) shape (now (points .entry)) (now (ys .entry)) (now (zs .entry)) (now (out .exit)) ⌝ }
+    ensures { λ _. ⌜ Solution (F·Field .numbers) (problem (F·Field .numbers) shape (now (points .entry)) (now (ys .entry)) (now (zs .entry))) (length (now (points .entry))) (shape .multiplicity) (now (out .exit)) ⌝ }
 {
     let count = shape.degree + 1;
     let size = out.len();
@@ -226,4 +227,45 @@ pub fn interpolate_points<F: Field>(
         shape.multiplicity,
     );
     fetch::<F>(out, rows, least(ranks));
+}
+
+// The ratios y : z of the points α, where y = h11(α) and z = -h21(α).
+fn ratios<F: Field>(ys: &mut [u16], zs: &mut [u16], points: &[u16], h11: &[u16], h21: &[u16])
+    requires all { ⌜ AllBelow (F·Field .numbers .q) (now points) ⌝ }
+    requires all_h11 { ⌜ AllBelow (F·Field .numbers .q) (now h11) ⌝ }
+    requires all_h21 { ⌜ AllBelow (F·Field .numbers .q) (now h21) ⌝ }
+    requires count_ys { ⌜ length (now ys) ≡ length (now points) ⌝ }
+    requires count_zs { ⌜ length (now zs) ≡ length (now points) ⌝ }
+    ensures { λ _. ⌜ Ratios (F·Field .numbers) (now (points .entry)) (now (h11 .entry)) (now (h21 .entry)) (now (ys .exit)) (now (zs .exit)) ⌝ }
+{
+    for i in 0..points.len() {
+        ys[i] = evaluate::<F>(h11, points[i]);
+        zs[i] = F::neg(evaluate::<F>(h21, points[i]));
+    }
+}
+
+// The interpolant of a basis: the place of each point has the ratio that h11 and h21 have there. It is the one from which the codewords are found.
+pub fn interpolate_basis<F: Field>(
+    shape: Shape,
+    points: &[u16],
+    h11: &[u16],
+    h21: &[u16],
+    out: &mut [u16],
+    work: &mut [u16],
+    ranks: &mut [usize],
+)
+    requires all { ⌜ AllBelow (F·Field .numbers .q) (now points) ⌝ }
+    requires all_h11 { ⌜ AllBelow (F·Field .numbers .q) (now h11) ⌝ }
+    requires all_h21 { ⌜ AllBelow (F·Field .numbers .q) (now h21) ⌝ }
+    requires size { ⌜ length (now out) ≡ suc (shape .degree) * shape .bound ⌝ }
+    requires ranked { ⌜ length (now ranks) ≡ suc (shape .degree) ⌝ }
+    requires space { ⌜ length (now points) + length (now points) + cells shape ≤ length (now work) ⌝ }
+    requires enough { ⌜ Enough shape (length (now points)) ⌝ }
+    ensures solution { λ _. ⌜ Solution (F·Field .numbers) (basis-problem (F·Field .numbers) shape (now (points .entry)) (now (h11 .entry)) (now (h21 .entry))) (length (now (points .entry))) (shape .multiplicity) (now (out .exit)) ⌝ }
+    ensures decodes { λ _. ⌜ Decodes (F·Field .numbers) shape (now (points .entry)) (now (h11 .entry)) (now (h21 .entry)) (now (out .exit)) ⌝ }
+{
+    let (ys, rest) = work.split_at_mut(points.len());
+    let (zs, rest) = rest.split_at_mut(points.len());
+    ratios::<F>(ys, zs, points, h11, h21);
+    interpolate_points::<F>(shape, points, ys, zs, out, rest, ranks);
 }
