@@ -4,3 +4,4 @@ pub mod Splitting
 pub mod Gathering
 pub mod Recovery
 pub mod Outcome
+pub mod Described

@@ -1,5 +1,5 @@
 -- What the sift answers: the word that passes, or that none does.
-use mathlib.Core.Path.{_≡_, refl, sym, _∙_, ap, ap₂, subst}
+use mathlib.Core.Path.{_≡_, refl, sym, _∙_, ap, ap₂, subst, fun-ext}
 use mathlib.Core.List.{List}
 use mathlib.Core.Bool.{Bool, true, false, cond}
 use mathlib.Core.Logic.{_≢_}
@@ -53,10 +53,13 @@ module _ (F : Numbers) where
         omega arith
 
     module _ (C : Code (field-of F)) (d : Describes F αs vs C) where
+      points-are : C .α ≡ poly F αs
+      points-are = fun-ext (λ j. d .points j ∙ sym (poly-at F αs j))
+
       -- the value at a point of the code
       root-at : (m j : ℕ) → Below (ring-of F) m (poly F w) → m ≤ length w → j < length αs
           → elem F (getD values j 0) ≡ at (ring-of F) (C .α j) m (poly F w)
-      root-at m j h l u = value-is F v m j h l u ∙ ap (λ (α : ℕ → Element F). at (ring-of F) (α j) m (poly F w)) (sym (d .points))
+      root-at m j h l u = value-is F v m j h l u ∙ ap (λ (α : ℕ → Element F). at (ring-of F) (α j) m (poly F w)) (sym points-are)
 
       off-root : (m j : ℕ) → Below (ring-of F) m (poly F w) → m ≤ length w → j < length αs → getD values j 0 ≢ 0
           → at (ring-of F) (C .α j) m (poly F w) ≢ elem F 0
@@ -74,7 +77,7 @@ module _ (F : Numbers) where
               size = t .size;
               degree = t .degree;
               split =
-                  sym (ap₂ (λ (n : ℕ) (α : ℕ → Element F). count n (zeros (field-of F) α (suc (t .size)) (poly F w))) (d .places) (d .points)) ∙ t .split;
+                  sym (ap₂ (λ (n : ℕ) (α : ℕ → Element F). count n (zeros (field-of F) α (suc (t .size)) (poly F w))) (d .places) points-are) ∙ t .split;
             }
 
         pub none-splits : (Splits F αs (poly F w) → ⊥) → (c : ℕ → Element F) → Passes (field-of F) C k τ (poly F rs) (poly F w) c → ⊥
@@ -88,9 +91,9 @@ module _ (F : Numbers) where
           issued j u =
               let l : j < length αs = subst (λ (n : ℕ). j < n) (d .places) u in
               poly-at F word j ∙ t .issued .is j l
-              ∙ ap₂ (times F) (sym (poly-at F vs j) ∙ ap (λ (f : ℕ → Element F). f j) (sym (d .multipliers)))
+              ∙ ap₂ (times F) (sym (d .multipliers j))
               (ev-more (ring-of F) (ring-of F) (λ x. x) (id-hom (ring-of F)) (elem F (getD αs j 0)) k (length message) (poly F message) short wide
-              ∙ ap (λ a. at (ring-of F) a k (poly F message)) (sym (poly-at F αs j) ∙ ap (λ (f : ℕ → Element F). f j) (sym (d .points))))
+              ∙ ap (λ a. at (ring-of F) a k (poly F message)) (sym (d .points j)))
 
           code : Codeword (field-of F) C k (poly F word)
           code = record { message = poly F message; short = short; word = issued }
@@ -147,7 +150,7 @@ module _ (F : Numbers) where
                   record {
                     size = s .size;
                     degree = s .degree;
-                    split = ap₂ (λ (m : ℕ) (α : ℕ → Element F). count m (zeros (field-of F) α (suc (s .size)) (poly F w))) (d .places) (d .points) ∙ s .split;
+                    split = ap₂ (λ (m : ℕ) (α : ℕ → Element F). count m (zeros (field-of F) α (suc (s .size)) (poly F w))) (d .places) points-are ∙ s .split;
                     agrees = λ j u nz.
                         let x : j < length αs = subst (λ (m : ℕ). j < m) (d .places) u in
                         poly-eq word rs j

@@ -10,7 +10,7 @@ use Rattle.std.specs.declared.option.Option.the-variants.{Some, None}
 use Rattle.decoding.specs.Code.{Code, codeword}
 use Rattle.decoding.specs.Words.{Same, distance}
 use Rattle.decoding.specs.Sift.{Passes}
-use Rattle.fields.specs.Numbers.{Numbers, AllBelow, Element, field-of}
+use Rattle.fields.specs.Numbers.{Numbers, AllBelow, Element, elem, field-of}
 use Rattle.polynomials.specs.Series.{poly}
 use Rattle.sift.specs.Interpolation.{Distinct}
 
@@ -36,8 +36,8 @@ pub record Placed (F : Numbers) (αs vs rs : List ℕ) : Type 0 where
 -- the code C has these points and multipliers
 pub record Describes (F : Numbers) (αs vs : List ℕ) (C : Code (field-of F)) : Type 0 where
   pub places : C .n ≡ length αs
-  pub points : C .α ≡ poly F αs
-  pub multipliers : C .v ≡ poly F vs
+  pub points : (j : ℕ) → C .α j ≡ elem F (getD αs j 0)
+  pub multipliers : (j : ℕ) → C .v j ≡ elem F (getD vs j 0)
 
 -- The sift by the polynomial w for the shares r, the threshold k and the radius τ
 module _ (F : Numbers) (C : Code (field-of F)) (k τ : ℕ) (r w : ℕ → Element F) where

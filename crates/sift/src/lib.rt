@@ -99,7 +99,8 @@ pub fn sift<F: Field>(
     requires room_too { ⌜ length (now f2) + length (now (rows .h2)) + length (now (received .points)) + 3 * threshold + 1 ≤ length (now work) ⌝ }
     requires message_room { ⌜ threshold < length (now message) ⌝ }
     requires word_room { ⌜ length (now (received .points)) ≤ length (now word) ⌝ }
-    ensures { λ r. ⌜ ((C : Code (field-of (F·Field .numbers))) → Describes (F·Field .numbers) (now (received .entry .points)) (now (received .entry .multipliers)) C → Sifted (F·Field .numbers) C threshold radius (poly (F·Field .numbers) (now (received .entry .shares))) (located (ring-of (F·Field .numbers)) (poly (F·Field .numbers) (now (rows .entry .h1))) (poly (F·Field .numbers) (now (rows .entry .h2))) (poly (F·Field .numbers) (now (f1 .entry))) (poly (F·Field .numbers) (now (f2 .entry)))) r (now (message .exit)) (now (word .exit))) ⌝ }
+    ensures code { λ _. ⌜ ((C : Code (field-of (F·Field .numbers))) × Describes (F·Field .numbers) (now (received .entry .points)) (now (received .entry .multipliers)) C) ⌝ }
+    ensures sifted { λ r. ⌜ ((C : Code (field-of (F·Field .numbers))) → Describes (F·Field .numbers) (now (received .entry .points)) (now (received .entry .multipliers)) C → Sifted (F·Field .numbers) C threshold radius (poly (F·Field .numbers) (now (received .entry .shares))) (located (ring-of (F·Field .numbers)) (poly (F·Field .numbers) (now (rows .entry .h1))) (poly (F·Field .numbers) (now (rows .entry .h2))) (poly (F·Field .numbers) (now (f1 .entry))) (poly (F·Field .numbers) (now (f2 .entry)))) r (now (message .exit)) (now (word .exit))) ⌝ }
 {
     let count = (f1.len() + rows.h1.len()).max(f2.len() + rows.h2.len());
     let (locator, rest) = work.split_at_mut(count);

@@ -7,6 +7,7 @@ use Rattle.fields.specs.Numbers.{Element, ring-of}
 use Rattle.polynomials.specs.Series.{poly}
 use Rattle.polynomials.proofs.Divides.{unset-all}
 use Rattle.sift.specs.Received.{Passed, NonePasses}
+use Rattle.sift.proofs.Described.{described}
 use Rattle.sift.proofs.sift.Needs as need
 
 pub sift-by-requires : need.sift-by-requires
@@ -23,16 +24,24 @@ sift-by-requires g c κs =
     }
 
 pub returns-in-Some : need.returns-in-Some
-returns-in-Some g c C d =
+returns-in-Some g c =
     let F = g .F·Field .numbers in
-    subst (λ (w : ℕ → Element F). Passed F C (c .args .threshold) (c .args .radius) (poly F (c .args .received .shares .now)) w (c .in-Some .distance) (c .sift-by .last .message) (c .sift-by .last .word))
-    (c .locate .ensures .is) (c .in-Some .ensures tt C d)
+    record {
+      code = described F (c .pre .placed);
+      sifted = λ C d.
+          subst (λ (w : ℕ → Element F). Passed F C (c .args .threshold) (c .args .radius) (poly F (c .args .received .shares .now)) w (c .in-Some .distance) (c .sift-by .last .message) (c .sift-by .last .word))
+          (c .locate .ensures .is) (c .in-Some .ensures tt C d);
+    }
 
 pub returns-in-None : need.returns-in-None
-returns-in-None g c C d =
-    let F = g .F·Field .numbers in (
-      subst (λ (w : ℕ → Element F). NonePasses F C (c .args .threshold) (c .args .radius) (poly F (c .args .received .shares .now)) w)
-          (c .locate .ensures .is) (c .in-None .ensures tt C d),
-      λ j _. unset-all F (c .clear .last .a) (c .clear .ensures .below) (c .clear .ensures .is) j,
-      λ j _. unset-all F (c .clear-in-None .last .a) (c .clear-in-None .ensures .below) (c .clear-in-None .ensures .is) j,
-    )
+returns-in-None g c =
+    let F = g .F·Field .numbers in
+    record {
+      code = described F (c .pre .placed);
+      sifted = λ C d. (
+        subst (λ (w : ℕ → Element F). NonePasses F C (c .args .threshold) (c .args .radius) (poly F (c .args .received .shares .now)) w)
+            (c .locate .ensures .is) (c .in-None .ensures tt C d),
+        λ j _. unset-all F (c .clear .last .a) (c .clear .ensures .below) (c .clear .ensures .is) j,
+        λ j _. unset-all F (c .clear-in-None .last .a) (c .clear-in-None .ensures .below) (c .clear-in-None .ensures .is) j,
+      );
+    }
