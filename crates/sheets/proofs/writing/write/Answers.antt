@@ -1,0 +1,29 @@
+use mathlib.Core.Path.{_≡_, sym, ap, _∙_}
+use mathlib.Core.List.{List, _++_}
+use Prim.Native.Nat.{ℕ, _+_, _*_, _≤_}
+use native.Mathlib.Omega.{arith}
+use lib.ListN.{length, drop}
+use Rattle.collections.specs.Standing.{standing}
+use Rattle.sheets.specs.Writing.{bytes-of}
+use Rattle.sheets.proofs.Written.{room, bytes-open, size-open}
+use Rattle.sheets.proofs.writing.write.Needs as need
+
+pub returns : need.returns
+returns g c =
+    let k = c .args .c .now .kept in
+    let o = c .in-Continue-opened .opened .now in
+    let e = c .in-Continue-opened .ensures tt in
+    let out = c .args .out .now in
+    let tag = g .F·Field .tag in
+    let n = c .count .ensures in
+    let size = size-open tag k o e in
+    let enough : 9 + 6 * o .code .count ≤ length out = omega arith in
+    let count : 9 + 6 * c .count .result ≡ length (bytes-of tag (standing k)) = omega arith in
+    record {
+      fault = sym (room k o (length out) e enough);
+      area =
+          c .write-sheet .ensures
+          ∙ sym (ap (λ (l : List ℕ). l ++ drop (9 + 6 * o .code .count) out) (bytes-open tag k o e))
+          ∙ sym (ap (λ (m : ℕ). bytes-of tag (standing k) ++ drop m out) size);
+      count = count;
+    }
