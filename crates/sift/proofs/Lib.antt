@@ -5,3 +5,4 @@ pub mod Gathering
 pub mod Recovery
 pub mod Outcome
 pub mod Described
+pub mod Concrete

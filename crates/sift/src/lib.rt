@@ -114,3 +114,42 @@ pub fn sift<F: Field>(
         }
     }
 }
+
+#[cfg(test)]
+mod tests {
+    use super::*;
+    use fields::Mod7;
+    use fields::Mod7Field;
+    use std::test::*;
+
+    // Modulo 7 the pair f1 = 2, f2 = 3 + x stands for the word of 1 + x, which is three places away from the shares.
+    #[test]
+    fn a_pair_gives_its_word() -> Result<(), Fail> {
+        let received = Received {
+            points: &[1, 2, 3, 4, 5, 6],
+            multipliers: &[1, 1, 1, 1, 1, 1],
+            shares: &[0, 0, 0, 5, 6, 0],
+        };
+        let rows = Rows {
+            h1: &[6, 6],
+            h2: &[4, 1, 3],
+        };
+        let mut work = [0; 20];
+        let mut message = [9; 3];
+        let mut word = [9; 7];
+        let found = sift::<Mod7>(
+            received,
+            2,
+            3,
+            rows,
+            &[2],
+            &[3, 1],
+            &mut work,
+            &mut message,
+            &mut word,
+        );
+        check(found == Some(3))?;
+        check(message == [1, 1, 0])?;
+        check(word == [2, 3, 4, 5, 6, 0, 0])
+    }
+}
