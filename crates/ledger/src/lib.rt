@@ -1,4 +1,6 @@
 pub mod calls;
+#[cfg(test)]
+mod tests;
 pub mod theorems;
 
 use codes::Opening;
