@@ -1,7 +1,7 @@
 -- Which book a collection stands for, what its answers say, and what a place tells a listing.
 use mathlib.Core.Path.{_≡_}
 use mathlib.Core.List.{List, map}
-use Prim.Native.Nat.{ℕ}
+use Prim.Native.Nat.{ℕ, _<_, _^_}
 use lib.ListN.{take}
 use denote.Ref.{now, RefT}
 use Rattle.std.specs.declared.option.Option.{Option}
@@ -37,10 +37,10 @@ page (Open o) at = opened (givenOf o) (take (o .code .count) at)
 abbrev pub standing : Kept → Book
 standing k = page (k .state) (k .places .at)
 
--- an open collection is over the field of q elements
+-- an open collection is over the field of q elements, a number of 16 bits
 abbrev pub Over : ℕ → State → Type 0
 Over q Unopened = Unit {0}
-Over q (Open o) = o .code .q ≡ q
+Over q (Open o) = (o .code .q ≡ q) × (q < 2 ^ 16)
 
 -- what every collection over a field of q elements keeps from its first call on
 abbrev pub Sound : ℕ → Kept → Type 0

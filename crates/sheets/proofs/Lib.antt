@@ -2,3 +2,6 @@ pub mod Told
 pub mod Made
 pub mod Acts
 pub mod Written
+pub mod Filled
+pub mod Back
+pub mod Again

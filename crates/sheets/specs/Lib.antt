@@ -1,4 +1,4 @@
 pub mod Sheet
 pub mod Reading
-pub mod Loading
 pub mod Writing
+pub mod Loading

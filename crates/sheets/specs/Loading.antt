@@ -16,6 +16,7 @@ use Rattle.codes.specs.First.{or-else, mapped}
 use Rattle.collections.specs.declared.Kept.{Kept}
 use Rattle.collections.specs.Book.{Book, Act, opening, entering, check, writes}
 use Rattle.collections.specs.Standing.{standing, Sound, SameIfRefused}
+use Rattle.sheets.specs.Writing.{bytes-of}
 use Rattle.sheets.specs.Sheet.{Sheet, sheet-of, header-fault, field-fault, given-in, shares-in}
 
 -- the shares of a source are entered in place order, from place i on
@@ -66,8 +67,14 @@ abbrev pub said : {U : Type 0} → Result U SheetFault → Said
 said (Ok _) = done
 said (Err f) = refused (sheetRefusal f) (sheetByte f) f
 
+-- a loaded sheet is written back byte for byte
+abbrev pub BackIfLoaded : {U : Type 0} → Result U SheetFault → ℕ → List ℕ → Book → Type 0
+BackIfLoaded (Ok _) tag bs after = bytes-of tag after ≡ bs
+BackIfLoaded (Err f) tag bs after = Unit {0}
+
 -- a loading into what is kept
 pub record Loaded {U : Type 0} (q tag : ℕ) (before : Kept) (bs : List ℕ) (r : Result U SheetFault) (after : Kept) : Type 0 where
   pub right : Loads q tag (standing before) bs (said r) (standing after)
   pub same : SameIfRefused r before after
   pub sound : Sound q before → Sound q after
+  pub back : BackIfLoaded r tag bs (standing after)

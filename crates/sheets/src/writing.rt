@@ -5,7 +5,9 @@ ghost use lib.ListN.{length, getD, take, drop};
 ghost use Rattle.std.specs.Vec.{made};
 ghost use Rattle.std.specs.declared.option.Option.the-variants.{None};
 ghost use Rattle.codes.specs.Opening.{fault-of};
-ghost use Rattle.collections.specs.Standing.{standing, shares, givenOf};
+ghost use Rattle.collections.specs.Book.{unopened};
+ghost use Rattle.collections.specs.Standing.{standing, shares, givenOf, Sound};
+ghost use Rattle.sheets.specs.Loading.{Loads, done};
 ghost use Rattle.sheets.specs.Writing.{pair, as-number, header-bytes, entry-bytes, sheet-bytes, bytes-of, write-fault, area-after};
 use crate::reading::EMPTY;
 use codes::Code;
@@ -89,6 +91,7 @@ pub fn write<F: Field>(c: &Collection<F>, out: &mut [u8]) -> Result<usize, Listi
     ensures fault { λ r. ⌜ fault-of r ≡ write-fault (standing (now (c .entry) .kept)) (length (now (out .entry))) ⌝ }
     ensures area { λ r. ⌜ now (out .exit) ≡ area-after (fault-of r) (bytes-of (F·Field .tag) (standing (now (c .entry) .kept))) (now (out .entry)) ⌝ }
     ensures count { λ r. ⌜ made r (λ n. n ≡ length (bytes-of (F·Field .tag) (standing (now (c .entry) .kept)))) ⌝ }
+    ensures again { λ r. ⌜ (Sound (F·Field .numbers .q) (now (c .entry) .kept) → made r (λ n. Loads (F·Field .numbers .q) (F·Field .tag) unopened (take n (now (out .exit))) done (standing (now (c .entry) .kept)))) ⌝ }
 {
     let opened = c.opened()?;
     let size = 9 + 6 * opened.code.count();

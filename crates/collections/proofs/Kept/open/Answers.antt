@@ -15,4 +15,4 @@ returns c =
     let g = given (c .args .o) in
     let right : Right (c .args .q) (standing (c .args .self .now)) (opening g) done (page (Open o) (c .new .result .at)) =
     opens (c .args .q) (standing (c .args .self .now)) g o (c .new .result .at) (c .in-Continue-still-blank .ensures tt) (checked .fault) (checked .code) refl (c .new .ensures) in
-    record { right = right; same = tt; sound = λ h. (checked .code .field, fair-kept (c .args .q) _ (opening g) done _ right (h .1)) }
+    record { right = right; same = tt; sound = λ h. ((checked .code .field, c .fits .q .fits), fair-kept (c .args .q) _ (opening g) done _ right (h .1)) }

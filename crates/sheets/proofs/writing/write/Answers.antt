@@ -1,10 +1,12 @@
-use mathlib.Core.Path.{_≡_, sym, ap, _∙_}
+use mathlib.Core.Path.{_≡_, sym, ap, ap₂, _∙_}
 use mathlib.Core.List.{List, _++_}
 use Prim.Native.Nat.{ℕ, _+_, _*_, _≤_}
 use native.Mathlib.Omega.{arith}
-use lib.ListN.{length, drop}
+use lib.ListN.{length, take, drop}
+use lib.Seq.{take-append-seam}
 use Rattle.collections.specs.Standing.{standing}
 use Rattle.sheets.specs.Writing.{bytes-of}
+use Rattle.sheets.proofs.Again.{kept-again}
 use Rattle.sheets.proofs.Written.{room, bytes-open, size-open}
 use Rattle.sheets.proofs.writing.write.Needs as need
 
@@ -19,11 +21,13 @@ returns g c =
     let size = size-open tag k o e in
     let enough : 9 + 6 * o .code .count ≤ length out = omega arith in
     let count : 9 + 6 * c .count .result ≡ length (bytes-of tag (standing k)) = omega arith in
+    let area : c .write-sheet .last .out ≡ bytes-of tag (standing k) ++ drop (length (bytes-of tag (standing k))) out =
+    c .write-sheet .ensures
+    ∙ sym (ap (λ (l : List ℕ). l ++ drop (9 + 6 * o .code .count) out) (bytes-open tag k o e))
+    ∙ sym (ap (λ (m : ℕ). bytes-of tag (standing k) ++ drop m out) size) in
     record {
       fault = sym (room k o (length out) e enough);
-      area =
-          c .write-sheet .ensures
-          ∙ sym (ap (λ (l : List ℕ). l ++ drop (9 + 6 * o .code .count) out) (bytes-open tag k o e))
-          ∙ sym (ap (λ (m : ℕ). bytes-of tag (standing k) ++ drop m out) size);
+      area = area;
       count = count;
+      again = λ h. kept-again (g .F·Field .numbers .q) tag k o _ e h (ap₂ take count area ∙ take-append-seam (bytes-of tag (standing k)) _);
     }
