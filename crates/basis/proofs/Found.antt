@@ -16,6 +16,7 @@ use Rattle.stages.specs.Readings.{Stops}
 use Rattle.stages.proofs.Syndrome.{syndrome-length, syndrome-below, syndrome-top}
 use Rattle.stages.proofs.Euclid.{rows-stop}
 use Rattle.basis.specs.Rows.{Room}
+use Rattle.basis.specs.declared.Basis.{Basis as Found}
 use Rattle.basis.specs.Found.{Filled, Finds}
 
 pub front : (d : ℕ) (xs zs : List ℕ) → length xs ≡ d → take d (xs ++ drop d zs) ≡ xs
@@ -49,16 +50,16 @@ module _ (F : Numbers) (αs vs rs : List ℕ) (hα : AllBelow (F .q) αs) (hv : 
     unfolding D basis
     rows-are = filled .rows ∙ ap₂ (rows F crossing) D-is S-is
 
-    pub found : (zs : List ℕ) (a′ b′ : ℤ) → Room d pa pb la lb → a′ ≡ a → b′ ≡ b
-        → Finds (basis F αs vs k rs) τ (record { d = d; s = S ++ drop d zs; h10 = pa ++ drop d zs; h11 = pb ++ drop d zs; h20 = la ++ drop d zs; h21 = lb ++ drop d zs; w1 = a′; w2 = b′ })
-    found zs a′ b′ room ea eb =
+    pub found : (zs : List ℕ) (r : Found) → Room d pa pb la lb → r .d ≡ d → r .s ≡ S ++ drop d zs → r .h10 ≡ pa ++ drop d zs → r .h11 ≡ pb ++ drop d zs
+        → r .h20 ≡ la ++ drop d zs → r .h21 ≡ lb ++ drop d zs → r .w1 ≡ a → r .w2 ≡ b → Finds (basis F αs vs k rs) τ r
+    found zs r room ed es e10 e11 e20 e21 ea eb =
         record {
-          size = ap length (sym S-is) ∙ long;
-          s = front d S zs long ∙ S-is;
-          h10 = front d pa zs (room .pa-length) ∙ ap (λ (R : Rows). R .before .a) rows-are;
-          h11 = front d pb zs (room .pb-length) ∙ ap (λ (R : Rows). R .before .b) rows-are;
-          h20 = front d la zs (room .la-length) ∙ ap (λ (R : Rows). R .last .a) rows-are;
-          h21 = front d lb zs (room .lb-length) ∙ ap (λ (R : Rows). R .last .b) rows-are;
+          size = ap length (sym S-is) ∙ long ∙ sym ed;
+          s = ap₂ (λ (m : ℕ) (xs : List ℕ). take m xs) ed es ∙ front d S zs long ∙ S-is;
+          h10 = ap₂ (λ (m : ℕ) (xs : List ℕ). take m xs) ed e10 ∙ front d pa zs (room .pa-length) ∙ ap (λ (R : Rows). R .before .a) rows-are;
+          h11 = ap₂ (λ (m : ℕ) (xs : List ℕ). take m xs) ed e11 ∙ front d pb zs (room .pb-length) ∙ ap (λ (R : Rows). R .before .b) rows-are;
+          h20 = ap₂ (λ (m : ℕ) (xs : List ℕ). take m xs) ed e20 ∙ front d la zs (room .la-length) ∙ ap (λ (R : Rows). R .last .a) rows-are;
+          h21 = ap₂ (λ (m : ℕ) (xs : List ℕ). take m xs) ed e21 ∙ front d lb zs (room .lb-length) ∙ ap (λ (R : Rows). R .last .b) rows-are;
           first-weight = ea ∙ filled .first-weight ∙ ap (λ (R : Rows). pos τ -ℤ degree (R .before .a) -ℤ pos 1) rows-are;
           second-weight = eb ∙ filled .second-weight ∙ ap (λ (R : Rows). pos τ -ℤ degree (R .last .b)) rows-are;
         }

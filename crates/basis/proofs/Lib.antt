@@ -3,3 +3,4 @@ mod Falls
 mod Starts
 mod Powers
 mod Found
+mod Laid

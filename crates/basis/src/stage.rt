@@ -1,13 +1,15 @@
 ghost use mathlib.Core.Path.{_≡_};
+ghost use mathlib.Core.List.{_++_};
 ghost use Prim.Native.Nat.{ℕ, _+_, _-_, _*_, _<_, _≤_};
 ghost use lib.IntN.{pos, _-ℤ_};
-ghost use lib.ListN.{length};
+ghost use lib.ListN.{length, take, drop};
 ghost use Rattle.fields.specs.Numbers.{AllBelow};
 ghost use Rattle.stages.specs.Coefficients.{degree as degreeOf};
 ghost use Rattle.stages.specs.Basis.{basis as basisOf};
-ghost use Rattle.basis.specs.Found.{Filled, Finds};
+ghost use Rattle.basis.specs.Found.{Filled, Finds, laid};
 ghost use Rattle.basis.specs.Rows.{Room};
 ghost use Rattle.stages.specs.Euclid.{row, two-rows};
+use crate::Basis;
 use crate::euclid::Stop;
 use crate::euclid::rows;
 use crate::syndromes::syndrome;
@@ -16,20 +18,6 @@ use polynomials::degree;
 
 // The most coefficients that an entry of a row has: as many as the longest code has places.
 const WIDTH: usize = 32;
-
-// What the first stage of a listing finds: the syndrome S, the rows (h10, h11) and (h20, h21) at which Euclid's algorithm stops, each the first d
-// numbers of an array, the lowest coefficient first, and the weights, which may be negative.
-#[derive(Clone, Copy)]
-pub struct Basis {
-    pub d: usize,
-    pub s: [u16; 32],
-    pub h10: [u16; 32],
-    pub h11: [u16; 32],
-    pub h20: [u16; 32],
-    pub h21: [u16; 32],
-    pub w1: i16,
-    pub w2: i16,
-}
 
 // w1 = τ - deg h10 - 1, where the zero polynomial has the degree -1.
 fn first_weight<F: Field>(radius: u8, h10: &[u16]) -> i16
@@ -123,5 +111,28 @@ pub fn find_basis<F: Field>(
         h21,
         w1,
         w2,
+    }
+}
+
+// Writes a run from the place `at` on.
+fn put(out: &mut [u16], at: usize, run: &[u16])
+    requires { ⌜ at + length (now run) ≤ length (now out) ⌝ }
+    ensures { λ _. ⌜ now (out .exit) ≡ take at (now (out .entry)) ++ (now (run .entry) ++ drop (at + length (now (run .entry))) (now (out .entry))) ⌝ }
+{
+    out[at..at + run.len()].copy_from_slice(run);
+}
+
+impl Basis {
+    // Writes S, h10, h11, h20 and h21 in this order, d numbers each.
+    pub fn write(&self, out: &mut [u16])
+        requires { ⌜ 5 * now self .d ≤ length (now out) ⌝ }
+        ensures { λ _. ⌜ now (out .exit) ≡ laid (now (self .entry)) ++ drop (5 * now (self .entry) .d) (now (out .entry)) ⌝ }
+    {
+        let d = self.d;
+        put(out, 0, &self.s[..d]);
+        put(out, d, &self.h10[..d]);
+        put(out, 2 * d, &self.h11[..d]);
+        put(out, 3 * d, &self.h20[..d]);
+        put(out, 4 * d, &self.h21[..d]);
     }
 }
