@@ -45,3 +45,70 @@ pub struct Code {
     ghost points_distinct: { Distinct count points },
     ghost multipliers_non_zero: { NonZero q count multipliers },
 }
+
+#[cfg(test)]
+mod tests {
+    use super::*;
+    use fields::Mod7;
+    use fields::Mod7Field;
+    use std::test::*;
+
+    // The number of the refusal of an opening modulo 7 with radius 3 and multiplicity 2, or 0.
+    fn refused<'a>(points: &'a [u16], multipliers: &'a [u16], threshold: u8, list_limit: u8) -> u8 {
+        let setting = Setting {
+            radius: 3,
+            multiplicity: 2,
+            list_limit,
+        };
+        let given = Opening {
+            points,
+            multipliers,
+            threshold,
+            setting,
+        };
+        match given.check(7) {
+            Ok(_) => 0,
+            Err(e) => e.refusal().number,
+        }
+    }
+
+    // Each check of opening before those that follow it.
+    #[test]
+    fn first_check_refuses() -> Result<(), Fail> {
+        let multipliers = [1, 1, 0, 1, 1, 1];
+        check_eq(refused(&[1, 7, 3, 1, 5], &multipliers, 6, 3), 1)?;
+        check_eq(refused(&[1, 7, 3, 1, 5, 6], &multipliers, 6, 3), 2)?;
+        check_eq(refused(&[1, 2, 3, 1, 5, 7], &multipliers, 2, 3), 3)?;
+        check_eq(refused(&[1, 2, 3, 1, 5, 6], &multipliers, 2, 3), 4)?;
+        check_eq(refused(&[1, 2, 3, 4, 5, 6], &multipliers, 2, 3), 5)?;
+        check_eq(refused(&[1, 2, 3, 4, 5, 6], &[1; 6], 2, 3), 6)?;
+        check_eq(refused(&[1, 2, 3, 4, 5, 6], &[1; 6], 2, 4), 0)
+    }
+
+    // The area after issuing by a code of three places modulo 7, 9 where nothing was written.
+    fn issued(message: &[u16]) -> [u16; 4] {
+        let mut area = [9; 4];
+        let setting = Setting {
+            radius: 0,
+            multiplicity: 1,
+            list_limit: 1,
+        };
+        let given = Opening {
+            points: &[1, 2, 3],
+            multipliers: &[1, 2, 3],
+            threshold: 2,
+            setting,
+        };
+        if let Ok(code) = given.check(7) {
+            let _ = issue::<Mod7>(&code, message, &mut area);
+        }
+        area
+    }
+
+    #[test]
+    fn issues() -> Result<(), Fail> {
+        check_eq(issued(&[1, 1]), [2, 6, 5, 9])?;
+        check_eq(issued(&[1, 7]), [9; 4])?;
+        check_eq(issued(&[1]), [9; 4])
+    }
+}

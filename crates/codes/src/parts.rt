@@ -27,13 +27,19 @@ impl Code {
     pub fn points(&self) -> &[u16]
         ensures { λ r. ⌜ now r ≡ take (now (self .entry) .count) (now (self .entry) .points) ⌝ }
     {
-        &self.points[0..self.count]
+        let Code { count, points, .. } = self;
+        &points[0..*count]
     }
 
     // The multipliers of the places, in their order.
     pub fn multipliers(&self) -> &[u16]
         ensures { λ r. ⌜ now r ≡ take (now (self .entry) .count) (now (self .entry) .multipliers) ⌝ }
     {
-        &self.multipliers[0..self.count]
+        let Code {
+            count,
+            multipliers,
+            ..
+        } = self;
+        &multipliers[0..*count]
     }
 }
