@@ -27,7 +27,7 @@ pub impl fmt::Display for Issued as IssuedDisplay {
 
     fn fmt<W: fmt::Write>(&self, f: &mut fmt::Formatter<W>) -> fmt::Result {
         let field = self.field;
-        let count = self.code.count();
+        let count = self.count();
         let threshold = self.code.threshold();
         write!(f, "code field {field} places {count} threshold {threshold}")
     }
