@@ -5,7 +5,7 @@ use mathlib.Core.Logic.{_≢_}
 use Prim.Native.Nat.{ℕ, zero, suc, _+_, _-_, _*_, _≤_, _<_}
 use native.Mathlib.Decide.{ℕ-discrete}
 use native.Mathlib.Omega.{arith}
-use native.Mathlib.Nat.{suc-mul, zero-mul, one-mul}
+use native.Mathlib.Nat.{suc-mul, zero-mul, one-mul, mul-le-mul-left}
 use borrow.Rule.Slice.PartMut.{postOf, same-len-mid}
 use lib.ListN.{length, getD, set, take, drop, length-set, length-take}
 use lib.Seq.{getD-set-same}
@@ -146,6 +146,10 @@ none-more a w n e = e ∙ ap (λ (k : ℕ). a + k) (zero-mul w) ∙ (let z : a +
 
 pub area-less : (a d w n : ℕ) → 0 < d → n ≡ a + d * w → (w ≤ n) × (n - w ≡ a + (d - 1) * w)
 area-less a d w n h e = let k = one-less d w h in (omega (arith, k, e), omega (arith, k, e))
+
+-- a work area for the degree m serves a lower degree k
+pub work-enough : (w d k m n : ℕ) → k ≤ m → 3 * (w + d * m) ≤ n → 3 * (w + d * k) ≤ n
+work-enough w d k m n h l = let e : d * k ≤ d * m = mul-le-mul-left d h in omega arith
 
 -- an area whose first n places were lent, and came back as ys
 abbrev pub put-front : ℕ → List ℕ → List ℕ → List ℕ

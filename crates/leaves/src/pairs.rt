@@ -1,6 +1,6 @@
 // Pairs of polynomials as records, and their order.
 ghost use mathlib.Core.Path.{_≡_};
-ghost use Rattle.leaves.specs.Order.{in-order};
+ghost use Rattle.leaves.specs.Order.{in-order, arranged};
 use rolls::Ordered;
 use rolls::comes_before;
 
@@ -23,5 +23,28 @@ pub impl Ordered for Pair as PairOrdered {
             return false;
         }
         comes_before(&self.second, &other.second)
+    }
+}
+
+// The charts of the walk: in the direct one the digits are those of f2 / f1, and in the turned one those of f1 / f2.
+#[derive(Clone, Copy)]
+pub enum Chart {
+    Direct,
+    Turned,
+}
+
+impl Chart {
+    // The pair with its polynomials in the order of the chart.
+    pub(crate) fn arrange(self, pair: Pair) -> Pair
+        ensures { λ r. ⌜ r ≡ arranged self pair ⌝ }
+    {
+        match self {
+            Chart::Direct => pair,
+            Chart::Turned => {
+                let first = pair.second;
+                let second = pair.first;
+                Pair { first, second }
+            }
+        }
     }
 }
