@@ -12,7 +12,7 @@ ghost use Rattle.polynomials.specs.Series.{poly, Reads};
 ghost use Rattle.basis.specs.Rows.{Room};
 ghost use Rattle.digits.specs.Runs.{runs as runsOf};
 ghost use Rattle.leaves.specs.Normalised.{Normalised};
-ghost use Rattle.leaves.specs.Reached.{Reconstructs, Candidate, Full, Reached};
+ghost use Rattle.leaves.specs.Reached.{Reconstructs, Candidate, Full, Reached, Exact};
 use super::forms::vanishes;
 use super::normal::normalise;
 use super::pairs::Chart;
@@ -141,7 +141,7 @@ fn normal_pair<F: Field>(pair: Pair) -> Pair
     Pair { first, second }
 }
 
-// The root that the digits come to, or nothing if the pair is no root of the form with these runs as its Q_0 to Q_degree.
+// The root of the form with these runs as its Q_0 to Q_degree whose series begins with the digits, or nothing if there is none.
 pub fn root_at_leaf<F: Field>(
     chart: Chart,
     digits: &[u16],
@@ -160,7 +160,8 @@ pub fn root_at_leaf<F: Field>(
     requires long { ⌜ length (now runs) ≡ (degree + 1) * width ⌝ }
     requires wide { ⌜ 0 < width ⌝ }
     requires work { ⌜ 3 * (width + degree * 31) ≤ length (now work) ⌝ }
-    ensures { λ r. ⌜ Reached (F·Field .numbers) chart degree w1 w2 (runsOf (F·Field .numbers) width (now (runs .entry))) (now (digits .entry)) r ⌝ }
+    ensures leaf { λ r. ⌜ Reached (F·Field .numbers) chart degree w1 w2 (runsOf (F·Field .numbers) width (now (runs .entry))) (now (digits .entry)) r ⌝ }
+    ensures exact { λ r. ⌜ Exact (F·Field .numbers) chart degree w1 w2 (runsOf (F·Field .numbers) width (now (runs .entry))) (now (digits .entry)) r ⌝ }
 {
     let pair = candidate::<F>(digits, w1, w2);
     let n = w1.max(w2) + 1;

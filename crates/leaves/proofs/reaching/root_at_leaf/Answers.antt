@@ -8,9 +8,11 @@ use Rattle.polynomials.specs.Series.{poly}
 use Rattle.digits.specs.Runs.{runs}
 use Rattle.leaves.specs.declared.pairs.Pair.{Pair}
 use Rattle.leaves.specs.Normalised.{Normalised}
-use Rattle.leaves.specs.Reached.{Full}
+use Rattle.std.specs.declared.option.Option.the-variants.{Some, None}
+use Rattle.leaves.specs.Reached.{Full, Reached}
 use Rattle.leaves.proofs.Horner.{work-enough}
 use Rattle.leaves.proofs.Rational.{first-below, leaf-none, leaf-some, leaf-proper, full-arranged}
+use Rattle.leaves.proofs.Unique.{reached-exact}
 use Rattle.leaves.proofs.reaching.root_at_leaf.Needs as need
 
 pub is-root-requires : need.is-root-requires
@@ -51,18 +53,24 @@ returns-then-is-root g c =
     let p = c .candidate-pair .result in
     let k = c .candidate-pair .ensures in
     let r = c .normal-pair .result in
+    let Q = runs F (c .args .width) (c .args .runs .now) in
+    let x : Reached F (c .args .chart) (c .args .degree) (c .args .w1) (c .args .w2) Q (c .args .digits .now) (Some r) =
     record {
       rows = k .is .rows;
       answer =
-          leaf-some F (c .args .degree) (c .args .w1) (c .args .w2) (runs F (c .args .width) (c .args .runs .now)) (c .args .digits .now) p k (c .if-is-root .ensures tt .0 tt) (c .args .chart) r (c .normal-pair .ensures .full)
+          leaf-some F (c .args .degree) (c .args .w1) (c .args .w2) Q (c .args .digits .now) p k (c .if-is-root .ensures tt .0 tt) (c .args .chart) r (c .normal-pair .ensures .full)
           (subst (λ (q : Pair). Normalised F (q .first) (q .second) (r .first) (r .second)) (c .arrange .ensures) (c .normal-pair .ensures .is));
-    }
+    } in
+    record { leaf = x; exact = reached-exact F (c .args .chart) (c .args .degree) (c .args .w1) (c .args .w2) Q (c .args .digits .now) (Some r) x }
 
 pub returns-else-is-root : need.returns-else-is-root
 returns-else-is-root g c =
     let F = g .F·Field .numbers in
     let k = c .candidate-pair .ensures in
+    let Q = runs F (c .args .width) (c .args .runs .now) in
+    let x : Reached F (c .args .chart) (c .args .degree) (c .args .w1) (c .args .w2) Q (c .args .digits .now) None =
     record {
       rows = k .is .rows;
-      answer = leaf-none F (c .args .degree) (c .args .w1) (c .args .w2) (runs F (c .args .width) (c .args .runs .now)) (c .args .digits .now) (c .candidate-pair .result) k (c .if-is-root .ensures tt .1);
-    }
+      answer = leaf-none F (c .args .degree) (c .args .w1) (c .args .w2) Q (c .args .digits .now) (c .candidate-pair .result) k (c .if-is-root .ensures tt .1);
+    } in
+    record { leaf = x; exact = reached-exact F (c .args .chart) (c .args .degree) (c .args .w1) (c .args .w2) Q (c .args .digits .now) None x }
