@@ -5,3 +5,4 @@ pub mod Issued
 pub mod Proposals
 pub mod Meanings
 pub mod Examples
+pub mod Exactly
