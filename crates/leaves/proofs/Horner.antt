@@ -1,9 +1,7 @@
 -- Horner's rule in a form, in this order: a list that is 1, a product that is added, the rule's start and its step, and a polynomial without coefficients.
 use mathlib.Core.Path.{_≡_, refl, sym, _∙_, ap, ap₂, subst, fun-ext}
 use mathlib.Core.List.{List, [], _∷_, _++_}
-use mathlib.Core.Logic.{_≢_}
 use Prim.Native.Nat.{ℕ, zero, suc, _+_, _-_, _*_, _≤_, _<_}
-use native.Mathlib.Decide.{ℕ-discrete}
 use native.Mathlib.Omega.{arith}
 use native.Mathlib.Nat.{suc-mul, zero-mul, one-mul, mul-le-mul-left}
 use borrow.Rule.Slice.PartMut.{postOf, same-len-mid}
@@ -23,7 +21,7 @@ use Rattle.algebra.proofs.Degrees.{size-below}
 use Rattle.algebra.proofs.Homogeneous.{hom-form}
 use Rattle.fields.specs.Numbers.{Numbers, AllBelow, Element, elem, ring-of, field-of}
 use Rattle.polynomials.specs.Series.{poly, Reads, plus-multiple}
-use Rattle.polynomials.proofs.Readings.{past, poly-past, become}
+use Rattle.polynomials.proofs.Readings.{past}
 use Rattle.digits.specs.Runs.{runs}
 use Rattle.polynomials.proofs.Shapes.{size-none, size-more}
 
@@ -134,9 +132,6 @@ runs-rest d w n h e =
     let a = one-less (d + 1) w (omega arith) in
     let b : (d + 1 - 1) * w ≡ (d - 1 + 1) * w = ap (λ (k : ℕ). k * w) (omega arith) in
     omega (arith, a, b, e)
-
-pub runs-first : (d w n : ℕ) → n ≡ (d + 1) * w → w ≤ n
-runs-first d w n e = let a = one-less (d + 1) w (omega arith) in omega (arith, a, e)
 
 pub run-only : (w n : ℕ) → n ≡ (0 + 1) * w → n ≡ w
 run-only w n e = e ∙ one-mul w

@@ -1,32 +1,29 @@
 -- Rational reconstruction from the digits, in this order: zeros after a polynomial, the pair of the row at which Euclid's algorithm stops, how many coefficients it has, and
 -- the leaf of the theory that it is.
 use mathlib.Core.Path.{_≡_, refl, sym, _∙_, ap, ap₂, subst, fun-ext}
-use mathlib.Core.List.{List, [], _∷_, _++_}
+use mathlib.Core.List.{List, _++_}
 use mathlib.Core.Logic.{_≢_}
 use Prim.Native.Nat.{ℕ, zero, suc, _+_, _-_, _≤_, _<_}
 use native.Mathlib.Decide.{decLt}
 use native.Mathlib.Numerals.{add-one}
 use native.Mathlib.Omega.{arith}
 use lib.ListN.{length, getD, take, drop, replicate, length-take}
-use Rattle.std.proofs.shelf.Lists.{getD-append-left, getD-append-right, getD-drop, getD-take, getD-replicate, length-replicate}
-use Rattle.algebra.specs.Ring.{Ring}
+use Rattle.std.proofs.shelf.Lists.{getD-append-left, getD-append-right, getD-drop, getD-take}
 use Rattle.algebra.specs.RingLaws as L
 use Rattle.algebra.specs.Poly.{conv, const, scale, pneg, pzero, Below, Degree}
 use Rattle.algebra.specs.PolyRing.{Poly, const-conv}
 use Rattle.algebra.specs.Taylor.{form}
 use Rattle.algebra.specs.Coprime.{Coprime}
-use Rattle.algebra.specs.Euclid.{Stopped}
 use Rattle.algebra.proofs.Eval.{below-neg}
 use Rattle.algebra.proofs.Coprime.{coprime-sym, coprime-neg, coprime-zero}
 use Rattle.decoding.specs.Walk.{LeafRows, Leaf}
 use Rattle.decoding.proofs.Reconstruct.{row-b, row-coprime}
 use Rattle.fields.specs.Numbers.{Numbers, AllBelow, Element, elem, pos, minus, times, ring-of, field-of, elem-neg, elem-inj}
 use Rattle.polynomials.specs.Series.{poly, Reads}
-use Rattle.polynomials.proofs.Readings.{all-at, past, poly-at, poly-past}
+use Rattle.polynomials.proofs.Readings.{all-at, past, poly-past}
 use Rattle.stages.specs.Euclid.{Row, Rows, row, two-rows, rows}
-use Rattle.stages.specs.Readings.{RowReads, Stops}
+use Rattle.stages.specs.Readings.{Stops}
 use Rattle.stages.proofs.Euclid.{rows-stop}
-use Rattle.basis.specs.declared.euclid.Stop.{Stop}
 use Rattle.basis.specs.declared.euclid.Stop.the-variants.{Short}
 use Rattle.basis.specs.Rows.{limit}
 use Rattle.leaves.specs.declared.pairs.Pair.{Pair}

@@ -1,18 +1,17 @@
 -- Pairs of polynomials times a constant: the coefficient that leads, and that the pair over it is normal.
-use mathlib.Core.Path.{_≡_, refl, sym, _∙_, ap, ap₂, subst, fun-ext}
-use mathlib.Core.List.{List, [], _∷_}
+use mathlib.Core.Path.{_≡_, refl, sym, _∙_, ap, subst, fun-ext}
+use mathlib.Core.List.{List}
 use mathlib.Core.Logic.{_≢_, _⊎_, inl, inr}
-use Prim.Native.Nat.{ℕ, zero, suc, _+_, _-_, _≤_, _<_}
+use Prim.Native.Nat.{ℕ, zero, suc, _-_, _<_}
 use native.Mathlib.Decide.{decLt}
 use native.Mathlib.Omega.{arith}
 use lib.ListN.{length, getD}
-use Rattle.algebra.specs.Ring.{Ring}
 use Rattle.algebra.specs.RingLaws as L
 use Rattle.algebra.specs.Poly.{scale, pzero, const, Below, Degree}
 use Rattle.algebra.specs.Coprime.{Normal}
 use Rattle.algebra.specs.Division.{size}
 use Rattle.algebra.proofs.Degrees.{size-degree}
-use Rattle.fields.specs.Numbers.{Numbers, AllBelow, Element, elem, pos, times, over, ring-of, field-of, elem-inv, elem-inj}
+use Rattle.fields.specs.Numbers.{Numbers, AllBelow, Element, elem, times, over, ring-of, field-of, elem-inv}
 use Rattle.polynomials.specs.Series.{poly, Reads}
 use Rattle.polynomials.proofs.Readings.{all-at, past, poly-past}
 use Rattle.leaves.specs.Normalised.{Leads, Normalised}

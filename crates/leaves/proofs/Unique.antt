@@ -1,10 +1,9 @@
 -- A leaf's answer is the only root whose series begins with the digits, in this order: a root with these digits is a leaf's pair, the digits of a leaf's pair, two
 -- normal pairs of one leaf, lists with the same polynomial, and the theorem.
-use mathlib.Core.Path.{_≡_, refl, sym, _∙_, ap, ap₂, subst}
+use mathlib.Core.Path.{_≡_, sym, _∙_, ap, ap₂, subst}
 use mathlib.Core.List.{List, [], _∷_}
 use mathlib.Core.Logic.{_≢_}
-use Prim.Native.Nat.{ℕ, suc, _+_, _<_}
-use native.Mathlib.Omega.{arith}
+use Prim.Native.Nat.{ℕ, suc, _+_}
 use lib.ListN.{length, getD}
 use Rattle.std.specs.declared.option.Option.{Option}
 use Rattle.std.specs.declared.option.Option.the-variants.{Some, None}
@@ -15,18 +14,17 @@ use Rattle.algebra.specs.RingLaws as L
 use Rattle.algebra.specs.Solve.{ring}
 use Rattle.algebra.specs.Field.{Field}
 use Rattle.algebra.specs.Sums.{pow}
-use Rattle.algebra.specs.Poly.{conv, padd, pneg, pzero, const, Order, Below, Bounded}
+use Rattle.algebra.specs.Poly.{conv, padd, pneg, const, Order, Bounded}
 use Rattle.algebra.specs.PolyRing.{Poly, const-conv}
 use Rattle.algebra.specs.PolyForms.{forms}
 use Rattle.algebra.specs.Taylor.{form}
-use Rattle.algebra.specs.Coprime.{Coprime, Normal}
 use Rattle.algebra.proofs.Homogeneous.{form-scale}
 use Rattle.algebra.proofs.Coprime.{const-inverse, coprime-sym, normal-unique}
 use Rattle.decoding.specs.Rational.{Plain}
 use Rattle.decoding.specs.Walk.{LeafRows, Leaf}
 use Rattle.decoding.proofs.Reconstruct.{reconstruct-coprime}
 use Rattle.decoding.proofs.Walk.{leaf-root, leaf-constant}
-use Rattle.fields.specs.Numbers.{Numbers, AllBelow, Element, elem, ring-of, field-of, elem-inj}
+use Rattle.fields.specs.Numbers.{Numbers, AllBelow, Element, ring-of, field-of, elem-inj}
 use Rattle.polynomials.specs.Series.{poly}
 use Rattle.polynomials.proofs.Readings.{all-at, poly-at, poly-past}
 use Rattle.leaves.specs.declared.pairs.Pair.{Pair}

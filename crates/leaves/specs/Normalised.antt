@@ -6,7 +6,7 @@ use Prim.Native.Nat.{ℕ, _<_}
 use Rattle.algebra.specs.Ring.{Ring}
 use Rattle.algebra.specs.Poly.{scale, pzero, Below, Degree}
 use Rattle.algebra.specs.Coprime.{Normal}
-use Rattle.fields.specs.Numbers.{Numbers, AllBelow, Element, elem, ring-of}
+use Rattle.fields.specs.Numbers.{Numbers, Element, elem, ring-of}
 use Rattle.polynomials.specs.Series.{poly, Reads}
 
 -- c is the leading coefficient of f₂, or f₂ is zero and f₁ is the constant c, which is not zero

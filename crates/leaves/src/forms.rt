@@ -1,7 +1,7 @@
 // Whether a form Σ Q_t y^t z^(ℓ - t) vanishes at a pair of polynomials, by Horner's rule in the form.
 ghost use mathlib.Core.Path.{_≡_};
 ghost use mathlib.Core.Logic.{_↔_};
-ghost use Prim.Native.Nat.{ℕ, _+_, _-_, _*_, _<_, _≤_};
+ghost use Prim.Native.Nat.{_+_, _-_, _*_, _<_, _≤_};
 ghost use lib.Dec.{T};
 ghost use lib.ListN.{length, take};
 ghost use Rattle.algebra.specs.Poly.{conv, padd, pzero, const};

@@ -1,7 +1,5 @@
 // One pair of all that differ by a constant factor.
 ghost use mathlib.Core.Path.{_≡_};
-ghost use Prim.Native.Nat.{ℕ, _<_};
-ghost use lib.ListN.{length};
 ghost use Rattle.algebra.specs.Poly.{pzero, Degree};
 ghost use Rattle.fields.specs.Numbers.{AllBelow, ring-of};
 ghost use Rattle.polynomials.specs.Series.{poly};

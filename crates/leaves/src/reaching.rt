@@ -1,7 +1,7 @@
 // What a leaf of the walk comes to: the pair (-b, a) of the row (a, b) at which Euclid's algorithm on x^N and the digits stops, if it is a root.
 ghost use mathlib.Core.Path.{_≡_};
 ghost use mathlib.Core.Logic.{_↔_};
-ghost use Prim.Native.Nat.{ℕ, suc, _+_, _-_, _*_, _<_, _≤_};
+ghost use Prim.Native.Nat.{suc, _+_, _-_, _*_, _<_, _≤_};
 ghost use lib.Dec.{T};
 ghost use lib.ListN.{length};
 ghost use Rattle.algebra.specs.Poly.{pzero, Below, Degree};

@@ -1,17 +1,17 @@
-use mathlib.Core.Path.{_≡_, refl, sym, _∙_, ap, subst}
+use mathlib.Core.Path.{_≡_, sym, _∙_, ap, subst}
 use mathlib.Core.List.{List}
-use Prim.Native.Nat.{ℕ, _+_, _-_, _*_, _≤_, _<_}
+use Prim.Native.Nat.{ℕ, _+_, _-_, _*_, _<_}
 use native.Mathlib.Omega.{arith}
-use lib.ListN.{length, take, drop, length-take, length-drop}
+use lib.ListN.{length, take, length-take, length-drop}
 use Rattle.algebra.specs.Poly.{conv, padd}
 use Rattle.algebra.specs.PolyRing.{Poly}
 use Rattle.algebra.specs.Taylor.{form}
 use Rattle.fields.specs.Numbers.{AllBelow, ring-of}
-use Rattle.polynomials.specs.Series.{poly, Reads}
+use Rattle.polynomials.specs.Series.{poly}
 use Rattle.polynomials.proofs.Readings.{become}
 use Rattle.digits.specs.Runs.{runs}
 use Rattle.digits.proofs.Arrays.{all-take, all-drop, part-rest}
-use Rattle.leaves.proofs.Horner.{runs-rest, runs-first, run-only, none-more, area-less, put-front, front-length, front-is, first-is, power-none, power-turn, form-turn}
+use Rattle.leaves.proofs.Horner.{runs-rest, run-only, none-more, area-less, put-front, front-length, front-is, first-is, power-none, power-turn, form-turn}
 use Rattle.leaves.proofs.forms.+evaluate_form.Needs as need
 
 pub begin-requires : need.begin-requires

@@ -1,7 +1,7 @@
-use mathlib.Core.Path.{_≡_, _∙_, ap}
+use mathlib.Core.Path.{_∙_, ap}
 use Rattle.algebra.specs.Poly.{padd}
 use Rattle.fields.specs.Numbers.{ring-of}
-use Rattle.polynomials.specs.Series.{poly, plus-multiple}
+use Rattle.polynomials.specs.Series.{poly}
 use Rattle.polynomials.proofs.Readings.{become}
 use Rattle.leaves.proofs.Horner.{plus-once}
 use Rattle.leaves.proofs.forms.add_product.Needs as need

@@ -1,8 +1,7 @@
-use mathlib.Core.Path.{_≡_, sym, _∙_, ap}
-use Prim.Native.Nat.{ℕ, _+_, _-_}
+use mathlib.Core.Path.{sym, _∙_}
+use Prim.Native.Nat.{ℕ, _+_}
 use native.Mathlib.Omega.{arith}
 use lib.ListN.{length, replicate}
-use Rattle.polynomials.specs.Series.{poly, Reads}
 use Rattle.leaves.proofs.Horner.{put-front, front-length}
 use Rattle.leaves.proofs.Rational.{padded, small-is, first-below, candidate-is}
 use Rattle.leaves.proofs.reaching.candidate.Needs as need

@@ -1,7 +1,7 @@
-use mathlib.Core.Path.{_≡_, _∙_, ap, sym, subst}
+use mathlib.Core.Path.{_≡_, _∙_, ap}
 use Prim.Native.Nat.{ℕ, _-_}
 use native.Mathlib.Omega.{arith}
-use lib.ListN.{length, take, length-take}
+use lib.ListN.{take, length-take}
 use Rattle.polynomials.specs.Series.{poly}
 use Rattle.polynomials.proofs.Readings.{become}
 use Rattle.digits.proofs.Arrays.{all-take}
