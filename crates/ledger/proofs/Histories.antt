@@ -24,7 +24,7 @@ use Rattle.collections.specs.declared.Place.the-variants.{Empty, Filled}
 use Rattle.collections.specs.Book.{Book, unopened, opened, Act, opening, entering, withdrawing, reading, placeCheck, placeIn, numberCheck, otherCheck, nothingCheck, check, writes, accepts, saidBy, leftBy, Said, done, told, refused, Right}
 use Rattle.collections.proofs.Fairness.{no-fault, neither-left, neither-right, test-failed}
 use Rattle.sheets.specs.Sheet.{sheet-of, header-fault, field-fault}
-use Rattle.sheets.specs.Loading.{acts-of, first-refused, all-written, load-fault, loaded, Loads, saidBy as saidLoading, leftBy as leftLoading}
+use Rattle.transfer.specs.Loading.{acts-of, first-refused, all-written, load-fault, loaded, Loads, saidBy as saidLoading, leftBy as leftLoading}
 use Rattle.ledger.specs.declared.Call.{Call}
 use Rattle.ledger.specs.declared.Call.the-variants.{Open, Load, Enter, Withdraw, Read}
 use Rattle.ledger.specs.Law.{Reply, accepted, tells, refuses, plain, with-byte, Acted, LoadedBy, Answered, Runs, stop, go}

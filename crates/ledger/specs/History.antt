@@ -14,7 +14,7 @@ use Rattle.collections.specs.declared.Place.{Place}
 use Rattle.collections.specs.declared.Place.the-variants.{Empty, Filled}
 use Rattle.collections.specs.Book.{Book, unopened, Act, opening, entering, withdrawing, reading}
 use Rattle.sheets.specs.Sheet.{sheet-of}
-use Rattle.sheets.specs.Loading.{acts-of}
+use Rattle.transfer.specs.Loading.{acts-of}
 use Rattle.ledger.specs.declared.Call.{Call}
 use Rattle.ledger.specs.declared.Call.the-variants.{Open, Load, Enter, Withdraw, Read}
 use Rattle.ledger.specs.Law.{Reply, accepted, tells, refuses, Answered, Runs}

@@ -15,7 +15,7 @@ use Rattle.faults.specs.Faults.{collectionRefusal, sheetRefusal, sheetByte}
 use Rattle.codes.specs.Opening.{given}
 use Rattle.collections.specs.declared.Place.{Place}
 use Rattle.collections.specs.Book.{Book, Act, opening, entering, withdrawing, reading, Said, done, told, refused, Right}
-use Rattle.sheets.specs.Loading.{Loads, Said as SaidLoading, done as load-done, refused as load-refused}
+use Rattle.transfer.specs.Loading.{Loads, Said as SaidLoading, done as load-done, refused as load-refused}
 use Rattle.ledger.specs.declared.Call.{Call}
 use Rattle.ledger.specs.declared.Call.the-variants.{Open, Load, Enter, Withdraw, Read}
 use Rattle.ledger.specs.declared.Answer.{Answer}

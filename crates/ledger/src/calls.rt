@@ -47,7 +47,7 @@ pub fn perform<F: Field>(c: &mut Collection<F>, call: Call<'_>) -> Answer
 {
     match call {
         Call::Open(opening) => answered(c.open(opening)),
-        Call::Load(bytes) => loaded(sheets::load(c, bytes)),
+        Call::Load(bytes) => loaded(transfer::load(c, bytes)),
         Call::Enter { place, value } => answered(c.enter(place, value)),
         Call::Withdraw { place } => answered(c.withdraw(place)),
         Call::Read { place } => told(c.read(place)),

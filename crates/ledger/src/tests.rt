@@ -173,12 +173,12 @@ fn areas_are_refused() -> Result<(), Fail> {
     let mut word = [9; 6];
     let mut bytes = [9; 46];
     check(listed(c.issue(&[1, 1], &mut word)) == (20, 0, 2))?;
-    check(counted(sheets::write(&c, &mut bytes)) == (20, 0, 2))?;
+    check(counted(transfer::write(&c, &mut bytes)) == (20, 0, 2))?;
     let _ = perform::<Mod7>(&mut c, Call::Load(&SHEET));
     check(listed(c.issue(&[9, 1, 1], &mut word)) == (17, 0, 3))?;
     check(listed(c.issue(&[1, 7], &mut word[0..5])) == (8, 1, 3))?;
     check(listed(c.issue(&[1, 1], &mut word[0..5])) == (10, 0, 3))?;
-    check(counted(sheets::write(&c, &mut bytes[0..44])) == (10, 0, 3))?;
-    check(counted(sheets::write(&c, &mut bytes)) == (0, 45, 0))?;
+    check(counted(transfer::write(&c, &mut bytes[0..44])) == (10, 0, 3))?;
+    check(counted(transfer::write(&c, &mut bytes)) == (0, 45, 0))?;
     check(bytes[0..45] == SHEET[0..45] && bytes[45] == 9)
 }

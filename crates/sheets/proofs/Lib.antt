@@ -1,7 +1,2 @@
 pub mod Told
 pub mod Made
-pub mod Acts
-pub mod Written
-pub mod Filled
-pub mod Back
-pub mod Again

@@ -1,4 +1,2 @@
 pub mod Sheet
 pub mod Reading
-pub mod Writing
-pub mod Loading

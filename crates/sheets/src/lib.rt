@@ -1,11 +1,8 @@
-mod loading;
 mod reading;
-mod writing;
 
 use codes::Setting;
-pub use loading::load;
+pub use reading::EMPTY;
 pub use reading::ReaderSource;
-pub use writing::write;
 
 // A sheet that is read from the caller's bytes, where its entries stay.
 #[derive(Clone, Copy)]

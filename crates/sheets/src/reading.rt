@@ -11,7 +11,8 @@ use codes::Setting;
 use collections::source::Source;
 use faults::SheetFault;
 
-pub(crate) const EMPTY: u16 = 0xFFFF;
+// What stands for the share of an empty place.
+pub const EMPTY: u16 = 0xFFFF;
 
 // The number of the entry of place p that begins at the entry's byte `part`.
 fn number(entries: &[u8], part: usize, p: usize) -> u16

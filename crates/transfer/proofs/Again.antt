@@ -28,12 +28,12 @@ use Rattle.collections.specs.declared.State.{State}
 use Rattle.collections.specs.declared.State.the-variants.{Open}
 use Rattle.collections.specs.declared.Kept.{Kept}
 use Rattle.collections.specs.Standing.{givenOf, page, standing, share, Over, Sound}
 use Rattle.sheets.specs.Sheet.{Sheet, sheet-of, two, header-fault, field-fault, number, column, given-in, share-in, shares-in}
-use Rattle.sheets.specs.Loading.{acts-of, enterings, first-refused, all-written, load-fault, loaded, Said, done, saidBy, leftBy, Loads}
-use Rattle.sheets.specs.Writing.{pair, as-number, header-bytes, entry-bytes, entries-bytes, sheet-bytes, bytes-of}
+use Rattle.transfer.specs.Loading.{acts-of, enterings, first-refused, all-written, load-fault, loaded, Said, done, saidBy, leftBy, Loads}
+use Rattle.transfer.specs.Writing.{pair, as-number, header-bytes, entry-bytes, entries-bytes, sheet-bytes, bytes-of}
 use Rattle.sheets.proofs.Made.{no-fault}
-use Rattle.sheets.proofs.Written.{entries-length, front-length, count-is}
-use Rattle.sheets.proofs.Filled.{place-of, place-share, fill, AllElements, none-refused}
+use Rattle.transfer.proofs.Written.{entries-length, front-length, count-is}
+use Rattle.transfer.proofs.Filled.{place-of, place-share, fill, AllElements, none-refused}
 
 two-pair : (v : ℕ) → v < 2 ^ 16 → two (v / 256 % 256) (v % 256) ≡ v
 two-pair v h = omega arith

@@ -12,7 +12,7 @@ use Rattle.faults.specs.Faults.{collectionRefusal}
 use Rattle.codes.specs.First.{or-else}
 use Rattle.codes.specs.Opening.{Given, first-fault}
 use Rattle.collections.specs.Book.{Book, unopened, Act, opening, entering, blankCheck, ofCode, check, writes, accepts, saidBy, leftBy, Said, done, refused, Right}
-use Rattle.sheets.specs.Loading.{enterings, first-refused, all-written}
+use Rattle.transfer.specs.Loading.{enterings, first-refused, all-written}
 
 -- an act is accepted where it says so, and refused where it says so
 no-refusal : (f : CollectionFault) → done ≡ refused (collectionRefusal f) f → ⊥

@@ -21,11 +21,11 @@ use Rattle.collections.specs.declared.Place.the-variants.{Empty}
 use Rattle.collections.specs.Book.{Book, opened}
 use Rattle.collections.specs.Standing.{share, shares}
 use Rattle.collections.proofs.Fairness.{neither-left, neither-right, test-failed}
 use Rattle.sheets.specs.Sheet.{Sheet, sheet-of, two, version-fault, length-fault, header-fault, field-fault, number, column, given-in, share-in, shares-in}
-use Rattle.sheets.specs.Loading.{acts-of, enterings, first-refused, all-written, load-fault, loaded, done, saidBy, leftBy, Loads}
-use Rattle.sheets.specs.Writing.{pair, as-number, header-bytes, entry-bytes, entries-bytes, sheet-bytes, bytes-of}
-use Rattle.sheets.proofs.Filled.{place-of, share-place, fill}
+use Rattle.transfer.specs.Loading.{acts-of, enterings, first-refused, all-written, load-fault, loaded, done, saidBy, leftBy, Loads}
+use Rattle.transfer.specs.Writing.{pair, as-number, header-bytes, entry-bytes, entries-bytes, sheet-bytes, bytes-of}
+use Rattle.transfer.proofs.Filled.{place-of, share-place, fill}
 use Rattle.sheets.proofs.Told.{told-count}
 
 -- k bytes from i on
 abbrev run : List ℕ → ℕ → ℕ → List ℕ

@@ -16,8 +16,8 @@ use Rattle.codes.specs.First.{or-else, mapped}
 use Rattle.collections.specs.declared.Kept.{Kept}
 use Rattle.collections.specs.Book.{Book, Act, opening, entering, check, writes}
 use Rattle.collections.specs.Standing.{standing, Sound, SameIfRefused}
-use Rattle.sheets.specs.Writing.{bytes-of}
+use Rattle.transfer.specs.Writing.{bytes-of}
 use Rattle.sheets.specs.Sheet.{Sheet, sheet-of, header-fault, field-fault, given-in, shares-in}
 
 -- the shares of a source are entered in place order, from place i on
 abbrev pub enterings : ℕ → List (Option ℕ) → List Act

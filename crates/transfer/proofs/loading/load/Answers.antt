@@ -1,9 +1,9 @@
 use native.Mathlib.Omega.{arith}
 use borrow.Author.Needs.{needs}
 use Rattle.collections.specs.Standing.{standing}
-use Rattle.sheets.specs.Loading.{Loads, done}
-use Rattle.sheets.proofs.Back.{loads-back}
-use Rattle.sheets.proofs.loading.load.Needs as need
+use Rattle.transfer.specs.Loading.{Loads, done}
+use Rattle.transfer.proofs.Back.{loads-back}
+use Rattle.transfer.proofs.loading.load.Needs as need
 
 pub returns : need.returns
 returns g c =

@@ -9,10 +9,10 @@ use Rattle.codes.specs.Opening.{fault-of}
 use Rattle.collections.specs.Book.{entering, check, Right}
 use Rattle.collections.specs.declared.Kept.{Kept}
 use Rattle.collections.specs.Standing.{standing, said, Sound}
-use Rattle.sheets.specs.Loading.{enterings}
-use Rattle.sheets.proofs.Acts.{Done, accepted, rejected, goes, skips, stops, none-at, some-at, over-at}
-use Rattle.sheets.proofs.loading.enter_all.Needs as need
-use Rattle.sheets.proofs.loading.enter_all.Needs.{in-Some·in-Continue-enter, in-rest}
+use Rattle.transfer.specs.Loading.{enterings}
+use Rattle.transfer.proofs.Acts.{Done, accepted, rejected, goes, skips, stops, none-at, some-at, over-at}
+use Rattle.transfer.proofs.loading.enter_all.Needs as need
+use Rattle.transfer.proofs.loading.enter_all.Needs.{in-Some·in-Continue-enter, in-rest}
 
 pub loop-i-holds : need.loop-i-holds
 loop-i-holds g c = (record { fault = refl; book = refl }, λ h. h)

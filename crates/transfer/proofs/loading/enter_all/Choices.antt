@@ -1,8 +1,8 @@
 use lib.ListN.{drop}
 use Rattle.collections.specs.Standing.{standing, Sound}
-use Rattle.sheets.specs.Loading.{enterings}
-use Rattle.sheets.proofs.Acts.{Done}
-use Rattle.sheets.proofs.loading.enter_all.Given as given
+use Rattle.transfer.specs.Loading.{enterings}
+use Rattle.transfer.proofs.Acts.{Done}
+use Rattle.transfer.proofs.loading.enter_all.Given as given
 
 abbrev pub Inv-loop-i : given.InvT-loop-i
 Inv-loop-i g l =

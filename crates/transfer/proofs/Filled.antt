@@ -18,7 +18,7 @@ use Rattle.collections.specs.declared.Place.{Place}
 use Rattle.collections.specs.declared.Place.the-variants.{Empty, Filled}
 use Rattle.collections.specs.Book.{Book, opened, entering, check, numberCheck, otherCheck, placeCheck, writes}
 use Rattle.collections.specs.Standing.{share}
-use Rattle.sheets.specs.Loading.{enterings, first-refused, all-written}
+use Rattle.transfer.specs.Loading.{enterings, first-refused, all-written}
 
 abbrev pub place-of : Option ℕ → Place
 place-of None = Empty

@@ -4,7 +4,7 @@ use Prim.Native.Nat.{ℕ, _+_, _-_}
 use native.Mathlib.Omega.{arith}
 use borrow.Rule.Slice.PartMut.{postOf, post-is}
 use lib.ListN.{length, take}
-use Rattle.sheets.proofs.writing.put.Needs as need
+use Rattle.transfer.proofs.writing.put.Needs as need
 
 pub returns : need.returns
 returns c =

@@ -4,11 +4,11 @@ use Rattle.std.specs.declared.option.Option.the-variants.{Some}
 use Rattle.codes.specs.Opening.{fault-of}
 use Rattle.collections.specs.Book.{opening, done, Right}
 use Rattle.collections.specs.Standing.{standing, said}
 use Rattle.sheets.specs.Sheet.{given-in, shares-in}
 use Rattle.sheets.specs.Reading.{meant}
-use Rattle.sheets.specs.Loading.{enterings}
-use Rattle.sheets.proofs.Acts.{Done, opens-refused, opens-first}
-use Rattle.sheets.proofs.loading.filled.Needs as need
+use Rattle.transfer.specs.Loading.{enterings}
+use Rattle.transfer.proofs.Acts.{Done, opens-refused, opens-first}
+use Rattle.transfer.proofs.loading.filled.Needs as need
 
 pub returns-in-Break-open-by : need.returns-in-Break-open-by
 returns-in-Break-open-by g c =

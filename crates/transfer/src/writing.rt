@@ -7,9 +7,8 @@ ghost use Rattle.std.specs.declared.option.Option.the-variants.{None};
 ghost use Rattle.codes.specs.Opening.{fault-of};
 ghost use Rattle.collections.specs.Book.{unopened};
 ghost use Rattle.collections.specs.Standing.{standing, shares, givenOf, Sound};
-ghost use Rattle.sheets.specs.Loading.{Loads, done};
-ghost use Rattle.sheets.specs.Writing.{pair, as-number, header-bytes, entry-bytes, sheet-bytes, bytes-of, write-fault, area-after};
-use crate::reading::EMPTY;
+ghost use Rattle.transfer.specs.Loading.{Loads, done};
+ghost use Rattle.transfer.specs.Writing.{pair, as-number, header-bytes, entry-bytes, sheet-bytes, bytes-of, write-fault, area-after};
 use codes::Code;
 use collections::Collection;
 use collections::Opened;
@@ -18,6 +17,7 @@ use collections::source::Source;
 use faults::ListingFault;
 use faults::ListingFromCollection;
 use fields::Field;
+use sheets::EMPTY;
 
 // Writes the bytes from the place `at` of the area on.
 fn put(out: &mut [u8], at: usize, bytes: &[u8])

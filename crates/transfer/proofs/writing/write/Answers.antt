@@ -5,10 +5,10 @@ use native.Mathlib.Omega.{arith}
 use lib.ListN.{length, take, drop}
 use lib.Seq.{take-append-seam}
 use Rattle.collections.specs.Standing.{standing}
-use Rattle.sheets.specs.Writing.{bytes-of}
-use Rattle.sheets.proofs.Again.{kept-again}
-use Rattle.sheets.proofs.Written.{room, bytes-open, size-open}
-use Rattle.sheets.proofs.writing.write.Needs as need
+use Rattle.transfer.specs.Writing.{bytes-of}
+use Rattle.transfer.proofs.Again.{kept-again}
+use Rattle.transfer.proofs.Written.{room, bytes-open, size-open}
+use Rattle.transfer.proofs.writing.write.Needs as need
 
 pub returns : need.returns
 returns g c =

@@ -7,10 +7,10 @@ use lib.ListN.{length, take}
 use Rattle.codes.specs.Opening.{Given}
 use Rattle.collections.specs.Book.{opening}
 use Rattle.collections.specs.Standing.{Judged}
 use Rattle.sheets.specs.Sheet.{given-in}
 use Rattle.sheets.specs.Reading.{meant}
 use Rattle.sheets.proofs.Told.{told-count, given-by}
-use Rattle.sheets.proofs.loading.open_by.Needs as need
+use Rattle.transfer.proofs.loading.open_by.Needs as need
 
 pub part-open-end : need.part-open-end
 part-open-end g c =

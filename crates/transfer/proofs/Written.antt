@@ -20,7 +20,7 @@ use Rattle.collections.specs.declared.State.{State}
 use Rattle.collections.specs.declared.State.the-variants.{Open}
 use Rattle.collections.specs.declared.Kept.{Kept}
 use Rattle.collections.specs.Standing.{givenOf, page, standing, shares}
-use Rattle.sheets.specs.Writing.{header-bytes, entry-bytes, entries-bytes, sheet-bytes, bytes-of, write-fault}
+use Rattle.transfer.specs.Writing.{header-bytes, entry-bytes, entries-bytes, sheet-bytes, bytes-of, write-fault}
 
 pub put-next : (front area out bs after : List ℕ) (at : ℕ) → out ≡ front ++ drop at area → at ≡ length front → after ≡ take at out ++ (bs ++ drop (at + length bs) out) → after ≡ (front ++ bs) ++ drop (at + length bs) area
 put-next front area out bs after at o a p =

@@ -3,8 +3,8 @@ use mathlib.Core.List.{_++_}
 use Prim.Native.Nat.{_+_, _*_}
 use lib.ListN.{drop}
 use Rattle.collections.specs.Standing.{standing, shares, givenOf}
-use Rattle.sheets.specs.Writing.{header-bytes, entries-bytes}
-use Rattle.sheets.proofs.writing.write_sheet.Given as given
+use Rattle.transfer.specs.Writing.{header-bytes, entries-bytes}
+use Rattle.transfer.proofs.writing.write_sheet.Given as given
 
 abbrev pub Inv-loop-p : given.InvT-loop-p
 Inv-loop-p g l =

@@ -3,11 +3,9 @@ ghost use Rattle.std.specs.Vec.{made};
 ghost use Rattle.codes.specs.Opening.{fault-of};
 ghost use Rattle.collections.specs.Book.{opening};
 ghost use Rattle.collections.specs.Standing.{standing, Sound, Judged};
 ghost use Rattle.sheets.specs.Sheet.{given-in};
 ghost use Rattle.sheets.specs.Reading.{meant, Short};
-ghost use Rattle.sheets.specs.Loading.{enterings, acts-of, first-refused, all-written, Loaded};
-use crate::Reader;
-use crate::reading::ReaderSource;
+ghost use Rattle.transfer.specs.Loading.{enterings, acts-of, first-refused, all-written, Loaded};
 use codes::Opening;
 use collections::Collection;
 use collections::source::Source;
@@ -15,6 +13,8 @@ use faults::CollectionFault;
 use faults::SheetFault;
 use faults::SheetFromCollection;
 use fields::Field;
+use sheets::Reader;
+use sheets::ReaderSource;
 
 // Enters every share of the source in place order, up to the first that is refused.
 fn enter_all<F: Field, S: Source>(c: &mut Collection<F>, source: &S) -> Result<(), CollectionFault>

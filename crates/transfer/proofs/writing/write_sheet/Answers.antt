@@ -3,8 +3,8 @@ use Prim.Native.Nat.{_*_}
 use native.Mathlib.Omega.{arith}
 use lib.ListN.{length}
 use Rattle.collections.specs.Standing.{standing, shares, givenOf}
-use Rattle.sheets.proofs.Written.{entry-next, count-is, kept-behind, all-written}
-use Rattle.sheets.proofs.writing.write_sheet.Needs as need
+use Rattle.transfer.proofs.Written.{entry-next, count-is, kept-behind, all-written}
+use Rattle.transfer.proofs.writing.write_sheet.Needs as need
 
 pub loop-p-again : need.loop-p-again
 loop-p-again g c =
