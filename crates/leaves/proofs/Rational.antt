@@ -89,10 +89,12 @@ module _ (F : Numbers) where
   negated p =
       fun-ext (λ n. ap (λ z. times F z (p n)) (elem-neg F 1 (F .laws .two)) ∙ L.neg-mul (ring-of F) (elem F 1) (p n) ∙ ap (minus F) (L.one-mul (ring-of F) (p n)))
 
-  pub stopped-below : (w₁ w₂ : ℕ) (ds s pa pb a b : List ℕ) → length ds ≡ suc (w₁ + w₂) → length s ≡ length ds + 1 → Reads F s (poly F ds)
-      → two-rows (row pa pb) (row a b) ≡ rows F (limit (Short (w₂ + 1))) (length s - 1) s → AllBelow (F .q) b
-  stopped-below w₁ w₂ ds s pa pb a b l k r e =
-      let t = stopped-at w₁ w₂ ds s l k r in
+  -- the rows have elements, whatever the size k at which the run stops
+  pub stopped-below : (k : ℕ) (ds s pa pb a b : List ℕ) → length s ≡ length ds + 1 → k ≤ length ds → Reads F s (poly F ds)
+      → two-rows (row pa pb) (row a b) ≡ rows F (λ _. k) (length s - 1) s → AllBelow (F .q) b
+  stopped-below k ds s pa pb a b l h r e =
+      let D : length s - 1 ≡ length ds = omega arith in
+      let t = rows-stop F (λ _. k) (length s - 1) s (r .below) (omega arith) (ap (λ (n : ℕ). getD s n 0) D ∙ last-zero s ds r) (omega arith) in
       subst (λ (z : Rows). AllBelow (F .q) (z .last .b)) (sym e) (t .last .b-below)
 
   pub reconstructed : (w₁ w₂ : ℕ) (ds s pa pb a b b′ : List ℕ) (c : ℕ) → length ds ≡ suc (w₁ + w₂) → length s ≡ length ds + 1

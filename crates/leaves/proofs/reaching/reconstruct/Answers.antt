@@ -21,8 +21,8 @@ scale-requires g c κs =
     let F = g .F·Field .numbers in
     record {
       factor = subst (λ (n : ℕ). n < F .q) (sym (c .neg .ensures)) (F .laws .neg-below 1);
-      all = stopped-below F (c .args .w1) (c .args .w2) (c .args .digits .now) (c .pad .last .out) (c .rows .last .pa) (c .rows .last .pb) (c .rows .last .la) (c .rows .last .lb)
-          (c .pre .long) (c .pad .kept .out ∙ c .pre .series) (c .pad .ensures) (c .rows .ensures);
+      all = stopped-below F _ (c .args .digits .now) (c .pad .last .out) (c .rows .last .pa) (c .rows .last .pb) (c .rows .last .la) (c .rows .last .lb)
+          (c .pad .kept .out ∙ c .pre .series) (omega (arith, c .pre .long)) (c .pad .ensures) (c .rows .ensures);
     }
 
 pub returns : need.returns
