@@ -1,5 +1,7 @@
 // The basis call: what the first stage of a listing finds for the shares of a source, written to the caller's area.
 mod calling;
+#[cfg(test)]
+mod tests;
 
 pub use calling::write_basis;
 
