@@ -10,7 +10,34 @@ use fields::Mod7Field;
 use std::test::*;
 
 // S = 3 + x + x² + 6x³, h10 = 3 + 4x + 2x², h11 = 6 + 6x, h20 = 2, h21 = 4 + x + 3x², and what lay beyond them.
-const WRITTEN: [u16; 26] = [3, 1, 1, 6, 0, 3, 4, 2, 0, 0, 6, 6, 0, 0, 0, 2, 0, 0, 0, 0, 4, 1, 3, 0, 0, 9];
+const WRITTEN: [u16; 26] = [
+    3,
+    1,
+    1,
+    6,
+    0,
+    3,
+    4,
+    2,
+    0,
+    0,
+    6,
+    6,
+    0,
+    0,
+    0,
+    2,
+    0,
+    0,
+    0,
+    0,
+    4,
+    1,
+    3,
+    0,
+    0,
+    9,
+];
 
 // Six places modulo 7, k = 2, τ = 3, s = 2, ℓ = 4.
 fn open(c: &mut Collection<Mod7>) -> Result<(), CollectionFault>
