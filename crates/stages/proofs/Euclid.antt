@@ -7,9 +7,11 @@ use native.Mathlib.Decide.{decLt}
 use native.Mathlib.Omega.{arith}
 use native.Mathlib.Numerals.{add-one}
 use lib.Dec.{leb}
+use lib.IntN.{pos as nat}
 use lib.ListN.{length, getD, replicate}
 use borrow.Author.Tests.{leb-true, leb-false}
 use Rattle.std.proofs.shelf.Lists.{length-append, length-replicate}
+use Rattle.std.proofs.shelf.Signed.{ints}
 use Rattle.algebra.specs.Ring.{Ring}
 use Rattle.algebra.specs.Poly.{conv, padd, pneg, pzero, const, Below, mono, Degree}
 use Rattle.algebra.specs.PolyRing.{Poly}
@@ -25,9 +27,9 @@ use Rattle.polynomials.specs.Series.{poly, plus-shifted}
 use Rattle.polynomials.proofs.Readings.{all-at, past, poly-past}
 use Rattle.polynomials.proofs.Shapes.{up-below, poly-up}
 use Rattle.polynomials.proofs.Divides.{ratio-is}
-use Rattle.stages.specs.Coefficients.{size, less}
+use Rattle.stages.specs.Coefficients.{size, degree, less}
 use Rattle.stages.specs.Euclid.{Row, Rows, row-less, divide, next, run, start, rows}
-use Rattle.stages.specs.Readings.{RowReads, Stops, Rows-stop}
+use Rattle.stages.specs.Readings.{RowReads, Stops, Rows-stop, Degrees-read}
 use Rattle.stages.proofs.Coefficients.{less-length, less-below, less-reads, shifted-is, size-degree, size-under, size-has-degree}
 
 -- the difference of two multiples, one after the other, over any ring
@@ -279,3 +281,12 @@ pub rows-stop : Rows-stop
 rows-stop F limit D S below long z c =
     run-stops F limit D (poly F S) (suc D) (start F D S .before) (start F D S .last) (top (field-of F) D) (second (field-of F) (poly F S)) D 0 0
     (start-before F D) (start-last F D S below long) (Theory.start (field-of F) D (poly F S) (start-low F D S long z)) (λ i k. unfold pzero in refl) c (omega arith)
+
+size-to-degree : (xs : List ℕ) (d : ℕ) → size xs ≡ suc d → degree xs ≡ nat d
+size-to-degree xs d e = omega (arith, ints)
+
+pub degrees-read : Degrees-read
+degrees-read F limit D S R T = (
+  size-to-degree (R .before .a) (T .stopped .p) (before-size F (T .before) (T .last) (T .stopped .rows)),
+  size-to-degree (R .last .b) (T .stopped .l) (last-size F (T .before) (T .last) (T .stopped .rows)),
+)

@@ -1,8 +1,9 @@
 -- What the definitions on lists mean in the decoder's theory: the syndrome of lists is the syndrome of the code that they make, the run of the rows
--- ends at rows at which Euclid's algorithm stops, and the distance of lists is that of the words.
+-- ends at rows at which Euclid's algorithm stops, with the degrees of the theory's rows, and the distance of lists is that of the words.
 use mathlib.Core.Path.{_≡_}
 use mathlib.Core.List.{List}
 use Prim.Native.Nat.{ℕ, suc, _≤_}
+use lib.IntN.{pos}
 use lib.ListN.{length, getD}
 use Rattle.algebra.specs.Ring.{Ring}
 use Rattle.algebra.specs.Sums.{Distinct, NonZero}
@@ -11,6 +12,7 @@ use Rattle.algebra.specs.Euclid.{Row as RowOf, Stopped}
 use Rattle.decoding.specs.Words.{distance as distanceOf}
 use Rattle.fields.specs.Numbers.{Numbers, AllBelow, Element, ring-of, field-of}
 use Rattle.polynomials.specs.Series.{poly}
+use Rattle.stages.specs.Coefficients.{degree}
 use Rattle.stages.specs.Syndrome.{syndrome}
 use Rattle.stages.specs.Euclid.{Row, Rows, rows}
 use Rattle.stages.specs.Words.{distance}
@@ -58,6 +60,12 @@ abbrev pub Rows-stop : Type 0
 Rows-stop =
     (F : Numbers) (limit : ℕ → ℕ) (D : ℕ) (S : List ℕ) → AllBelow (F .q) S → length S ≡ suc D → getD S D 0 ≡ 0 → limit 0 ≤ D
     → Stops F limit D (poly F S) (rows F limit D S)
+
+-- The degrees of h10 and h21, from which the weights are taken, are those of the theory's rows
+abbrev pub Degrees-read : Type 0
+Degrees-read =
+    (F : Numbers) (limit : ℕ → ℕ) (D : ℕ) (S : ℕ → Element F) (R : Rows) (T : Stops F limit D S R)
+    → (degree (R .before .a) ≡ pos (T .stopped .p)) × (degree (R .last .b) ≡ pos (T .stopped .l))
 
 -- The distance of lists is the theory's
 abbrev pub Distance-reads : Type 0
