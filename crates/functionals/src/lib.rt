@@ -93,6 +93,17 @@ pub fn weight_table<F: Field>(out: &mut [u16], size: usize, slope: Slope)
     }
 }
 
+// a b, at no multiplication where a is 1: the first number of a table, and every number at an infinite slope.
+fn product<F: Field>(a: u16, b: u16) -> u16
+    requires { ⌜ b < F·Field .numbers .q ⌝ }
+    ensures { λ r. ⌜ r ≡ F·Field .numbers .mul a b ⌝ }
+{
+    if a == 1 {
+        return b;
+    }
+    F::mul(a, b)
+}
+
 // The sum of the products of the coefficients of p with the numbers of x. Most coefficients are 0, and cost no product.
 fn dot<F: Field>(p: &[u16], x: &[u16]) -> u16
     requires first { ⌜ AllBelow (F·Field .numbers .q) (now p) ⌝ }
@@ -104,7 +115,7 @@ fn dot<F: Field>(p: &[u16], x: &[u16]) -> u16
     let mut sum = 0;
     for i in 0..p.len() {
         if p[i] != 0 {
-            sum = F::add(sum, F::mul(x[i], p[i]));
+            sum = F::add(sum, product::<F>(x[i], p[i]));
         }
     }
     sum
@@ -124,7 +135,7 @@ pub fn discrepancy<F: Field>(row: &[u16], xs: &[u16], cs: &[u16]) -> u16
     for t in 0..cs.len() {
         let (run, tail) = rest.split_at(xs.len());
         if cs[t] != 0 {
-            sum = F::add(sum, F::mul(cs[t], dot::<F>(run, xs)));
+            sum = F::add(sum, product::<F>(cs[t], dot::<F>(run, xs)));
         }
         rest = tail;
     }

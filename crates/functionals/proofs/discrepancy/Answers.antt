@@ -30,6 +30,9 @@ dot-requires g c κs =
       room = omega arith;
     }
 
+pub product-requires : need.product-requires
+product-requires g c κs = c .dot .ensures .below
+
 pub loop-t-again : need.loop-t-again
 loop-t-again g c =
     let F = g .F·Field .numbers in
@@ -46,7 +49,7 @@ loop-t-again g c =
           sum-more F (term F row xs cs) t (c .loop-t .sum) (getD cs t 0) (w .dot .result) (w .add-sum .result) (c .loop-t .inv .1)
           (c .pre .third t (omega arith)) (w .dot .ensures .below) (c .loop-t .inv .2)
           (term-is F row xs cs front t (w .dot .result) e (c .split-at .ensures .front-len) (w .dot .ensures .is))
-          (w .add-sum .ensures ∙ ap (F .add (c .loop-t .sum)) (w .mul .ensures)) in
+          (w .add-sum .ensures ∙ ap (F .add (c .loop-t .sum)) (w .product .ensures)) in
           let n = subst (λ (r : ℕ). (r < F .q) × (elem F r ≡ sum (ring-of F) (t + 1) (term F row xs cs))) (sym (w .sum-is)) m in
           (back, n .0, n .1)
       | else-cs-t-ne0 w ↦

@@ -13,6 +13,9 @@ use Rattle.functionals.proofs.dot.Needs as need
 pub loop-i-holds : need.loop-i-holds
 loop-i-holds g c = let F = g .F·Field .numbers in (pos F, sum-none F (λ m. times F (poly F (c .args .x .now) m) (poly F (c .args .p .now) m)))
 
+pub product-requires : need.product-requires
+product-requires g c κs = c .pre .first (c .loop-i .i) (omega arith)
+
 pub loop-i-again : need.loop-i-again
 loop-i-again g c =
     let F = g .F·Field .numbers in
@@ -24,7 +27,7 @@ loop-i-again g c =
           let m =
           sum-more F (λ m. times F (poly F x m) (poly F p m)) i (c .loop-i .sum) (getD x i 0) (getD p i 0) (w .add-sum .result) (c .loop-i .inv .0)
           (c .pre .second i (omega arith)) (c .pre .first i (omega arith)) (c .loop-i .inv .1)
-          (ap₂ (times F) (sym (poly-at F x i)) (sym (poly-at F p i))) (w .add-sum .ensures ∙ ap (F .add (c .loop-i .sum)) (w .mul .ensures)) in
+          (ap₂ (times F) (sym (poly-at F x i)) (sym (poly-at F p i))) (w .add-sum .ensures ∙ ap (F .add (c .loop-i .sum)) (w .product .ensures)) in
           subst (λ (r : ℕ). (r < F .q) × (elem F r ≡ sum (ring-of F) (i + 1) (λ m. times F (poly F x m) (poly F p m)))) (sym (w .sum-is)) m
       | else-p-i-ne0 w ↦
           let m =
