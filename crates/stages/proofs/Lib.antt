@@ -2,3 +2,4 @@ pub mod Coefficients
 pub mod Syndrome
 pub mod Euclid
 pub mod Words
+pub mod Basis

@@ -2,7 +2,7 @@
 -- ends at rows at which Euclid's algorithm stops, with the degrees of the theory's rows, and the distance of lists is that of the words.
 use mathlib.Core.Path.{_≡_}
 use mathlib.Core.List.{List}
-use Prim.Native.Nat.{ℕ, suc, _≤_}
+use Prim.Native.Nat.{ℕ, suc, _-_, _≤_}
 use lib.IntN.{pos}
 use lib.ListN.{length, getD}
 use Rattle.algebra.specs.Ring.{Ring}
@@ -15,6 +15,7 @@ use Rattle.polynomials.specs.Series.{poly}
 use Rattle.stages.specs.Coefficients.{degree}
 use Rattle.stages.specs.Syndrome.{syndrome}
 use Rattle.stages.specs.Euclid.{Row, Rows, rows}
+use Rattle.stages.specs.Basis.{crossing, basis}
 use Rattle.stages.specs.Words.{distance}
 
 module _ (F : Numbers) where
@@ -60,6 +61,14 @@ abbrev pub Rows-stop : Type 0
 Rows-stop =
     (F : Numbers) (limit : ℕ → ℕ) (D : ℕ) (S : List ℕ) → AllBelow (F .q) S → length S ≡ suc D → getD S D 0 ≡ 0 → limit 0 ≤ D
     → Stops F limit D (poly F S) (rows F limit D S)
+
+-- So the basis has the rows at which Euclid's algorithm on x ^ (n - k) and the theory's syndrome stops
+abbrev pub Basis-reads : Type 0
+Basis-reads =
+    (F : Numbers) (αs vs rs : List ℕ) (k : ℕ) (distinct : Distinct (ring-of F) (length αs) (poly F αs))
+    (points : NonZero (ring-of F) (length αs) (poly F αs)) (multipliers : NonZero (ring-of F) (length αs) (poly F vs))
+    → AllBelow (F .q) αs → AllBelow (F .q) vs → AllBelow (F .q) rs
+    → Stops F crossing (length αs - k) (syndromeOf (field-of F) (code-of F αs vs (length αs - k) distinct points multipliers) (poly F rs)) (basis F αs vs k rs .rows)
 
 -- The degrees of h10 and h21, from which the weights are taken, are those of the theory's rows
 abbrev pub Degrees-read : Type 0

@@ -1,4 +1,4 @@
-ghost use Rattle.stages.specs.Readings.{Syndrome-reads, Rows-stop, Degrees-read, Distance-reads};
+ghost use Rattle.stages.specs.Readings.{Syndrome-reads, Rows-stop, Basis-reads, Degrees-read, Distance-reads};
 
 // The stages of a listing as definitions that compute, in specs/, and what they mean in the decoder's theory: one function for each theorem.
 
@@ -10,6 +10,12 @@ pub fn syndrome_reads() -> u8
 
 pub fn rows_stop() -> u8
     ensures { λ _. ⌜ Rows-stop ⌝ }
+{
+    0
+}
+
+pub fn basis_reads() -> u8
+    ensures { λ _. ⌜ Basis-reads ⌝ }
 {
     0
 }
