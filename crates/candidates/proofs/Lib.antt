@@ -1,0 +1,4 @@
+pub mod Orders
+pub mod Telling
+pub mod Entering
+pub mod Nearness

@@ -1,0 +1,1 @@
+-- Lists to which the candidate of one pair more is added.
