@@ -4,7 +4,7 @@ use mathlib.Core.Path.{_≡_, refl, sym, _∙_, ap, subst}
 use mathlib.Core.Bool.{Bool, true, false, cond}
 use mathlib.Core.List.{List, [], _∷_, _++_}
 use mathlib.Core.Logic.{_⊎_, inl, inr, ⊎-elim}
-use Prim.Native.Nat.{ℕ, suc, _+_, _≤_, _<_}
+use Prim.Native.Nat.{ℕ, zero, suc, _+_, _≤_, _<_}
 use native.Mathlib.Omega.{arith}
 use lib.Dec.{ltb, eqb}
 use lib.ListN.{length, take, getD, length-append, length-take}
@@ -22,7 +22,10 @@ use Rattle.rolls.proofs.Accepted.{accepted, fits-after, length-after}
 use Rattle.rolls.proofs.Unique.{insertion-exact}
 
 -- an insertion for which there is room is not refused
-room-answer : (e : Bool) (n room : ℕ) → n < room → cond e (Ok false) (cond (ltb n room) (Ok true) (Err Full)) ≡ Ok {E = RollFault} (cond e false true)
+abbrev Answer : Type 0
+Answer = Result Bool RollFault
+
+room-answer : (e : Bool) (n room : ℕ) → n < room → _≡_ {A = Answer} (cond e (Ok false) (cond (ltb n room) (Ok true) (Err Full))) (Ok (cond e false true))
 room-answer true n room h = refl
 room-answer false n room h = ap (λ (t : Bool). cond t (Ok true) (Err Full)) (lt-ltb n room h)
 

@@ -9,12 +9,13 @@ use Rattle.std.proofs.shelf.Lists.{ext-getD}
 use Rattle.std.proofs.shelf.Tests.{cases-lt}
 use Rattle.std.specs.declared.option.Option.the-variants.{Some, None}
 use Rattle.decoding.specs.Code.{Code}
-use Rattle.decoding.specs.Words.{Same, distance, Codeword}
+use Rattle.decoding.specs.Words.{Same, differ, distance, Codeword}
 use Rattle.decoding.proofs.Words.{message-unique, distance-same}
 use Rattle.fields.specs.Numbers.{Numbers, AllBelow, Element, elem-inj, field-of}
 use Rattle.polynomials.specs.Series.{poly}
 use Rattle.polynomials.proofs.Readings.{all-at, poly-at}
-use Rattle.sift.specs.Received.{Ends, Passed, NonePasses}
+use Rattle.sift.specs.Received.{Ends, Describes, Passed, NonePasses}
+use Rattle.sift.proofs.Counts.{count-le}
 use Rattle.sift.proofs.Recovery.{ends-below}
 use Rattle.candidates.specs.declared.records.Candidate.{Candidate}
 use Rattle.candidates.specs.Telling.{Tells, Passing, Only}
@@ -79,3 +80,10 @@ module _ (F : Numbers) where
 
       pub none-only : NonePasses F C k τ r w → Only (Passing F C k r τ w) None
       none-only no-word z q = no-word (poly F (z .word)) (q .passes)
+
+  -- the distance of a word that passes is the count of places at most
+  pub short-distance : {αs vs : List ℕ} (C : Code (field-of F)) → Describes F αs vs C → {k τ d : ℕ} {r w : ℕ → Element F} {message word : List ℕ}
+      → Passed F C k τ r w d message word → d ≤ length αs
+  short-distance C told {r = r} {word = word} p =
+      let most = count-le (C .n) (differ (field-of F) r (poly F word)) in
+      omega (arith, p .apart, told .places)

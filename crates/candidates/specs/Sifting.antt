@@ -3,7 +3,7 @@
 use mathlib.Core.Path.{_≡_}
 use mathlib.Core.List.{List}
 use Prim.Native.Nat.{ℕ, _+_, _-_, _*_, _≤_, _<_}
-use lib.ListN.{length}
+use lib.ListN.{length, replicate}
 use Rattle.algebra.specs.Poly.{Below}
 use Rattle.decoding.specs.Code.{Code}
 use Rattle.decoding.specs.Setting.{Accepted}
@@ -44,6 +44,10 @@ pub record FromOne (F : Numbers) (C : Code (field-of F)) (k τ : ℕ) (rs h₁ h
   pub pair : Pair
   pub member : Has pair pairs
   pub passing : Passing F C k (poly F rs) τ (locator F h₁ h₂ pair) c
+
+-- the record that stands where there is no candidate
+abbrev pub blank : Candidate
+blank = record { distance = 0; message = replicate 32 0; word = replicate 32 0 }
 
 -- (f₁, f₂) is one of the pairs
 pub record OneOf (F : Numbers) (pairs : List Pair) (f₁ f₂ : ℕ → Element F) : Type 0 where
