@@ -4,20 +4,18 @@ use mathlib.Core.Path.{_≡_, refl, sym, _∙_, ap, subst}
 use mathlib.Core.Bool.{Bool, true, false, cond}
 use mathlib.Core.List.{List, [], _∷_, _++_}
 use mathlib.Core.Logic.{_⊎_, inl, inr, ⊎-elim}
-use Prim.Native.Nat.{ℕ, zero, suc, _+_, _≤_, _<_}
+use Prim.Native.Nat.{ℕ, zero, suc, _+_, _-_, _≤_, _<_}
 use native.Mathlib.Omega.{arith}
 use lib.Dec.{ltb, eqb}
-use lib.ListN.{length, take, getD, length-append, length-take}
+use lib.ListN.{length, take, getD, replicate, length-append}
 use borrow.Author.Tests.{lt-ltb}
 use Rattle.std.specs.declared.result.Result.{Result}
 use Rattle.std.specs.declared.result.Result.the-variants.{Ok, Err}
-use Rattle.std.specs.declared.option.Option.{Option}
-use Rattle.std.specs.declared.option.Option.the-variants.{Some, None}
-use Rattle.std.proofs.shelf.Lists.{take-at, length-take-le, take-more}
+use Rattle.std.proofs.shelf.Lists.{take-at, length-take-le}
 use Rattle.rolls.specs.declared.slots.RollFault.{RollFault}
 use Rattle.rolls.specs.declared.slots.RollFault.the-variants.{Full}
 use Rattle.rolls.specs.Order.{TotalOrder, Ascending, Has, Lists, insert}
-use Rattle.rolls.specs.Insertion.{Inserted, answer, entered, over}
+use Rattle.rolls.specs.Insertion.{Inserted, answer, entered, over, cleared}
 use Rattle.rolls.proofs.Accepted.{accepted, fits-after, length-after}
 use Rattle.rolls.proofs.Unique.{insertion-exact}
 
@@ -65,6 +63,14 @@ module _ {X : Type 0} (less : X → X → Bool) (x : X) where
       let before = length-take-le n slots (omega arith) in
       let most = insert-length (take n slots) in
       omega (arith, ap length got)
+
+-- the slots of a roll that was closed: the items as they were, and blanks beyond them
+module _ {X : Type 0} (blank : X) (n : ℕ) (slots ys : List X) (h : n ≤ length slots) (e : ys ≡ cleared blank n slots) where
+  pub closed-items : take n ys ≡ take n slots
+  closed-items = ap (take n) e ∙ take-at (take n slots) (replicate (length slots - n) blank) n (length-take-le n slots h)
+
+  pub closed-beyond : ys ≡ take n ys ++ replicate (length slots - n) blank
+  closed-beyond = e ∙ ap (λ (xs : List X). xs ++ replicate (length slots - n) blank) (sym closed-items)
 
 module _ {X : Type 0} {less : X → X → Bool} where
   -- the items and the one with the property P
