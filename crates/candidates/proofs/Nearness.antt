@@ -1,5 +1,5 @@
 -- Lists of what is sifted from pairs: with no pair, with one pair more; and with the right pairs, where they are the codewords near the shares.
-use mathlib.Core.Path.{_≡_, refl, sym, _∙_, ap, ap₂, subst}
+use mathlib.Core.Path.{_≡_, sym, _∙_, ap, ap₂, subst}
 use mathlib.Core.Bool.{Bool, true, false}
 use mathlib.Core.List.{List, [], _∷_, _++_}
 use mathlib.Core.Logic.{_⊎_, inl, inr, ⊎-elim}
@@ -7,24 +7,21 @@ use Prim.Native.Nat.{ℕ, zero, suc, _+_, _≤_, _<_}
 use native.Mathlib.Omega.{arith}
 use lib.ListN.{length, take, getD}
 use Rattle.std.proofs.shelf.Lists.{take-more}
-use Rattle.algebra.specs.Poly.{Below}
 use Rattle.decoding.specs.Code.{Code}
 use Rattle.decoding.specs.Setting.{Accepted}
 use Rattle.decoding.specs.Sift.{located, Passes}
-use Rattle.decoding.specs.Pairs.{Pairs, Sifted}
+use Rattle.decoding.specs.Pairs.{Pairs}
 use Rattle.decoding.specs.Theorems.{WordRows}
-use Rattle.decoding.specs.Words.{Same, Near}
 use Rattle.decoding.proofs.Complete.{complete}
 use Rattle.decoding.proofs.AtMost.{at-most}
 use Rattle.fields.specs.Numbers.{Numbers, Element, ring-of, field-of}
 use Rattle.polynomials.specs.Series.{poly}
 use Rattle.leaves.specs.declared.pairs.Pair.{Pair}
 use Rattle.rolls.specs.Order.{Leads, Ascending, Has, Lists}
-use Rattle.sift.specs.Received.{Describes}
 use Rattle.candidates.specs.declared.records.Candidate.{Candidate}
 use Rattle.candidates.specs.Order.{in-order}
-use Rattle.candidates.specs.Telling.{Tells, Passing, Close}
-use Rattle.candidates.specs.Sifting.{locator, FromOne, OneOf, ListsSifted, ListsNear, blank}
+use Rattle.candidates.specs.Telling.{Passing, Close, blank}
+use Rattle.candidates.specs.Sifting.{locator, Enters, FromOne, OneOf, ListsSifted, ListsNear}
 use Rattle.candidates.proofs.Orders.{in-order-total}
 use Rattle.candidates.proofs.Telling.{tells-one}
 use Rattle.candidates.proofs.Entering.{restate, has-first, has-last, has-cases, has-at}
@@ -54,8 +51,7 @@ module _ (F : Numbers) (αs vs rs h₁ h₂ : List ℕ) (k τ : ℕ) where
   -- one pair more
   pub more-sifted : (pairs : List Pair) (i : ℕ) (p : Pair) (items items′ : List Candidate) → i < length pairs
       → ListsSifted F αs vs rs h₁ h₂ k τ (take i pairs) items
-      → ((C : Code (field-of F)) → Describes F αs vs C
-      → Lists in-order (λ z. Has z items ⊎ Passing F C k (poly F rs) τ (locator F h₁ h₂ (getD pairs i p)) z) items′)
+      → Enters F αs vs rs h₁ h₂ k τ (getD pairs i p) items items′
       → ListsSifted F αs vs rs h₁ h₂ k τ (take (i + 1) pairs) items′
   more-sifted pairs i p items items′ h before after C d =
       let x = getD pairs i p in

@@ -1,9 +1,12 @@
--- Pairs of numbers, to be sifted, in this order: the locator of a pair, what is asked of a pair and of all else that a sift is given; the candidates
--- that are sifted from a list of pairs; and that these are all candidates near the shares.
+-- Pairs of numbers, to be sifted, in this order: the locator of a pair, what is asked of a pair and of all else that a sift is given; the candidate
+-- that is sifted from a pair, and those from a list of pairs; and that these are all candidates near the shares. Each statement is of every code with the
+-- given points and multipliers, of which there is one.
 use mathlib.Core.Path.{_≡_}
 use mathlib.Core.List.{List}
+use mathlib.Core.Logic.{_⊎_}
 use Prim.Native.Nat.{ℕ, _+_, _-_, _*_, _≤_, _<_}
-use lib.ListN.{length, replicate}
+use lib.ListN.{length}
+use Rattle.std.specs.declared.option.Option.{Option}
 use Rattle.algebra.specs.Poly.{Below}
 use Rattle.decoding.specs.Code.{Code}
 use Rattle.decoding.specs.Setting.{Accepted}
@@ -17,7 +20,7 @@ use Rattle.rolls.specs.Order.{Has, Lists}
 use Rattle.sift.specs.Received.{Placed, Describes}
 use Rattle.candidates.specs.declared.records.Candidate.{Candidate}
 use Rattle.candidates.specs.Order.{in-order}
-use Rattle.candidates.specs.Telling.{Passing, Close}
+use Rattle.candidates.specs.Telling.{Passing, Close, Only}
 
 -- the locator of a pair, by the second entries h₁, h₂ of the two rows at which Euclid's algorithm stops
 abbrev pub locator : (F : Numbers) → List ℕ → List ℕ → Pair → ℕ → Element F
@@ -39,15 +42,22 @@ pub record Ready (F : Numbers) (αs vs rs h₁ h₂ : List ℕ) (k room : ℕ) :
   pub fits : 32 + length h₁ + length αs + 3 * k + 1 ≤ room
   pub fits-too : 32 + length h₂ + length αs + 3 * k + 1 ≤ room
 
+-- the answer is the candidate that is sifted from the pair, or that there is none
+abbrev pub SiftedFrom : (F : Numbers) → List ℕ → List ℕ → List ℕ → List ℕ → List ℕ → ℕ → ℕ → Pair → Option Candidate → Type 0
+SiftedFrom F αs vs rs h₁ h₂ k τ p answer =
+    (C : Code (field-of F)) → Describes F αs vs C → Only (Passing F C k (poly F rs) τ (locator F h₁ h₂ p)) answer
+
+-- the items after are the items before and what is sifted from the pair, in order and each once
+abbrev pub Enters : (F : Numbers) → List ℕ → List ℕ → List ℕ → List ℕ → List ℕ → ℕ → ℕ → Pair → List Candidate → List Candidate → Type 0
+Enters F αs vs rs h₁ h₂ k τ p before after =
+    (C : Code (field-of F)) → Describes F αs vs C
+    → Lists in-order (λ z. Has z before ⊎ Passing F C k (poly F rs) τ (locator F h₁ h₂ p) z) after
+
 -- the word of c passes the sift by one of the pairs, with its message and its distance from the shares
 pub record FromOne (F : Numbers) (C : Code (field-of F)) (k τ : ℕ) (rs h₁ h₂ : List ℕ) (pairs : List Pair) (c : Candidate) : Type 0 where
   pub pair : Pair
   pub member : Has pair pairs
   pub passing : Passing F C k (poly F rs) τ (locator F h₁ h₂ pair) c
-
--- the record that stands where there is no candidate
-abbrev pub blank : Candidate
-blank = record { distance = 0; message = replicate 32 0; word = replicate 32 0 }
 
 -- (f₁, f₂) is one of the pairs
 pub record OneOf (F : Numbers) (pairs : List Pair) (f₁ f₂ : ℕ → Element F) : Type 0 where
@@ -56,7 +66,7 @@ pub record OneOf (F : Numbers) (pairs : List Pair) (f₁ f₂ : ℕ → Element 
   pub first : poly F (pair .first) ≡ f₁
   pub second : poly F (pair .second) ≡ f₂
 
--- the items are all that is sifted from the pairs, in order and each once, for every code with these points and multipliers
+-- the items are all that is sifted from the pairs, in order and each once
 abbrev pub ListsSifted : (F : Numbers) → List ℕ → List ℕ → List ℕ → List ℕ → List ℕ → ℕ → ℕ → List Pair → List Candidate → Type 0
 ListsSifted F αs vs rs h₁ h₂ k τ pairs items =
     (C : Code (field-of F)) → Describes F αs vs C → Lists in-order (FromOne F C k τ rs h₁ h₂ pairs) items

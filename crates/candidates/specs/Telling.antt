@@ -1,8 +1,8 @@
--- What a candidate tells, in this order: that it is the record of a codeword, that its word passes the sift by a polynomial, that its word is near
--- the shares; and that an answer is the one candidate with a property.
+-- What a candidate tells, in this order: the blank record; that a record is that of a codeword, that its word passes the sift by a polynomial, that
+-- its word is near the shares; and that an answer is the one candidate with a property.
 use mathlib.Core.Path.{_≡_}
 use Prim.Native.Nat.{ℕ}
-use lib.ListN.{length}
+use lib.ListN.{length, replicate}
 use Rattle.std.specs.declared.option.Option.{Option}
 use Rattle.std.specs.declared.option.Option.the-variants.{Some, None}
 use Rattle.decoding.specs.Code.{Code, codeword}
@@ -12,6 +12,10 @@ use Rattle.fields.specs.Numbers.{Numbers, AllBelow, Element, field-of}
 use Rattle.polynomials.specs.Series.{poly}
 use Rattle.sift.specs.Received.{Ends}
 use Rattle.candidates.specs.declared.records.Candidate.{Candidate}
+
+-- the record that stands where there is no candidate
+abbrev pub blank : Candidate
+blank = record { distance = 0; message = replicate 32 0; word = replicate 32 0 }
 
 -- For the threshold k and the shares r
 module _ (F : Numbers) (C : Code (field-of F)) (k : ℕ) (r : ℕ → Element F) where

@@ -1,4 +1,4 @@
-// Candidates as records, and their order. This file and specs/Records are the only places that name the parts of a record.
+// Candidates as records, and their order. Only this file compares the parts of a record, and only `sift_pair` writes them.
 ghost use mathlib.Core.Path.{_≡_};
 ghost use Rattle.candidates.specs.Order.{in-order};
 use rolls::Ordered;

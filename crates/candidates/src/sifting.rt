@@ -1,18 +1,13 @@
 // From pairs to candidates: one pair, one pair into a roll, and a list of pairs.
 ghost use mathlib.Core.Path.{_≡_};
 ghost use mathlib.Core.List.{_++_};
-ghost use mathlib.Core.Logic.{_⊎_};
 ghost use Prim.Native.Nat.{_+_, _-_, _≤_, _<_};
 ghost use denote.Ref.{name};
 ghost use lib.ListN.{length, take, replicate};
-ghost use Rattle.decoding.specs.Code.{Code};
-ghost use Rattle.fields.specs.Numbers.{field-of};
-ghost use Rattle.polynomials.specs.Series.{poly};
-ghost use Rattle.rolls.specs.Order.{Ascending, Has, Lists};
-ghost use Rattle.sift.specs.Received.{Describes};
+ghost use Rattle.rolls.specs.Order.{Ascending, Has};
 ghost use Rattle.candidates.specs.Order.{in-order};
-ghost use Rattle.candidates.specs.Telling.{Passing, Only};
-ghost use Rattle.candidates.specs.Sifting.{locator, Usable, Ready, blank, ListsSifted, ListsNear};
+ghost use Rattle.candidates.specs.Telling.{blank};
+ghost use Rattle.candidates.specs.Sifting.{Usable, Ready, SiftedFrom, Enters, ListsSifted, ListsNear};
 use crate::records::Candidate;
 use crate::records::CandidateOrdered;
 use fields::Field;
@@ -33,7 +28,7 @@ pub fn sift_pair<F: Field>(
 ) -> Option<Candidate>
     requires ready { ⌜ Ready (F·Field .numbers) (now (received .points)) (now (received .multipliers)) (now (received .shares)) (now (rows .h1)) (now (rows .h2)) threshold (length (now work)) ⌝ }
     requires usable { ⌜ Usable (F·Field .numbers) (length (now (received .points))) threshold (now (rows .h1)) (now (rows .h2)) (now pair) ⌝ }
-    ensures { λ r. ⌜ ((C : Code (field-of (F·Field .numbers))) → Describes (F·Field .numbers) (now (received .entry .points)) (now (received .entry .multipliers)) C → Only (Passing (F·Field .numbers) C threshold (poly (F·Field .numbers) (now (received .entry .shares))) radius (locator (F·Field .numbers) (now (rows .entry .h1)) (now (rows .entry .h2)) (now (pair .entry)))) r) ⌝ }
+    ensures { λ r. ⌜ SiftedFrom (F·Field .numbers) (now (received .entry .points)) (now (received .entry .multipliers)) (now (received .entry .shares)) (now (rows .entry .h1)) (now (rows .entry .h2)) threshold radius (now (pair .entry)) r ⌝ }
 {
     let mut message = [0; 32];
     let mut word = [0; 32];
@@ -69,7 +64,7 @@ fn enter<F: Field>(
     requires usable { ⌜ Usable (F·Field .numbers) (length (now (received .points))) threshold (now (rows .h1)) (now (rows .h2)) (now pair) ⌝ }
     requires space { ⌜ now roll .len < length (now (now roll .slots)) ⌝ }
     requires ascending { ⌜ Ascending in-order (take (now roll .len) (now (now roll .slots))) ⌝ }
-    ensures entered { λ _. ⌜ ((C : Code (field-of (F·Field .numbers))) → Describes (F·Field .numbers) (now (received .entry .points)) (now (received .entry .multipliers)) C → Lists in-order (λ z. Has z (take (now (roll .entry) .len) (now (now (roll .entry) .slots))) ⊎ Passing (F·Field .numbers) C threshold (poly (F·Field .numbers) (now (received .entry .shares))) radius (locator (F·Field .numbers) (now (rows .entry .h1)) (now (rows .entry .h2)) (now (pair .entry))) z) (take (now (roll .exit) .len) (now (now (roll .exit) .slots)))) ⌝ }
+    ensures entered { λ _. ⌜ Enters (F·Field .numbers) (now (received .entry .points)) (now (received .entry .multipliers)) (now (received .entry .shares)) (now (rows .entry .h1)) (now (rows .entry .h2)) threshold radius (now (pair .entry)) (take (now (roll .entry) .len) (now (now (roll .entry) .slots))) (take (now (roll .exit) .len) (now (now (roll .exit) .slots))) ⌝ }
     ensures grows { λ _. ⌜ now (roll .exit) .len ≤ now (roll .entry) .len + 1 ⌝ }
     ensures room { λ _. ⌜ length (now (now (roll .exit) .slots)) ≡ length (now (now (roll .entry) .slots)) ⌝ }
     ensures lender { λ _. ⌜ name (now (roll .exit) .slots) ≡ name (now (roll .entry) .slots) ⌝ }
@@ -77,6 +72,7 @@ fn enter<F: Field>(
     let Some(found) = sift_pair::<F>(received, threshold, radius, rows, pair, work) else {
         return;
     };
+    // There is a free slot, so the answer is never that the roll is full.
     let _ = roll.insert(found);
 }
 

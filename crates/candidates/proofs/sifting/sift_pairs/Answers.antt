@@ -8,7 +8,8 @@ use Rattle.leaves.specs.declared.pairs.Pair.{Pair}
 use Rattle.rolls.specs.Insertion.{cleared}
 use Rattle.sift.proofs.Described.{described}
 use Rattle.candidates.specs.declared.records.Candidate.{Candidate}
-use Rattle.candidates.specs.Sifting.{ListsSifted, blank}
+use Rattle.candidates.specs.Telling.{blank}
+use Rattle.candidates.specs.Sifting.{ListsSifted}
 use Rattle.candidates.proofs.Entering.{has-at, closed-items, closed-beyond}
 use Rattle.candidates.proofs.Nearness.{none-sifted, more-sifted, near}
 use Rattle.candidates.proofs.sifting.sift_pairs.Needs as need
@@ -40,7 +41,7 @@ enter-requires g c κs =
             fits = omega arith;
             fits-too = omega arith;
           };
-      usable = c .pre .usable (getD (c .args .pairs .now) (c .loop-pair .pair-index) (record { first = []; second = [] })) (has-at (c .args .pairs .now) (c .loop-pair .pair-index) (record { first = []; second = [] }) (c .loop-pair-test .taken));
+      usable = c .pre .usable _ (has-at _ _ _ (omega arith));
       space = omega (arith, ap length (c .new-roll .ensures .same));
       ascending = c .loop-pair .inv .0 C d .ascending;
     }
