@@ -32,7 +32,6 @@ module _ (F : Numbers) (αs vs rs h₁ h₂ : List ℕ) (k τ : ℕ) where
       record { ascending = tt; sound = λ z h. elim h [ ]; complete = λ z f. f .member }
 
   module _ (C : Code (field-of F)) where
-
     -- what is sifted from some pairs and one more
     pub both : (pairs : List Pair) (p : Pair) (items : List Candidate) → Lists in-order (FromOne F C k τ rs h₁ h₂ pairs) items → (z : Candidate)
         → Has z items ⊎ Passing F C k (poly F rs) τ (locator F h₁ h₂ p) z → FromOne F C k τ rs h₁ h₂ (pairs ++ p ∷ []) z

@@ -12,6 +12,15 @@ pub struct Candidate {
     pub word: [u16; 32],
 }
 
+impl Candidate {
+    // What stands where there is no candidate.
+    pub const BLANK: Candidate = Candidate {
+        distance: 0,
+        message: [0; 32],
+        word: [0; 32],
+    };
+}
+
 // Dictionary order of the values, then the distance, then dictionary order of the message.
 pub impl Ordered for Candidate as CandidateOrdered {
     ghost less = { in-order };

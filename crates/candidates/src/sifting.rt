@@ -30,8 +30,7 @@ pub fn sift_pair<F: Field>(
     requires usable { ⌜ Usable (F·Field .numbers) (length (now (received .points))) threshold (now (rows .h1)) (now (rows .h2)) (now pair) ⌝ }
     ensures { λ r. ⌜ SiftedFrom (F·Field .numbers) (now (received .entry .points)) (now (received .entry .multipliers)) (now (received .entry .shares)) (now (rows .entry .h1)) (now (rows .entry .h2)) threshold radius (now (pair .entry)) r ⌝ }
 {
-    let mut message = [0; 32];
-    let mut word = [0; 32];
+    let mut found = Candidate::BLANK;
     let distance = sift::<F>(
         received,
         threshold,
@@ -40,14 +39,11 @@ pub fn sift_pair<F: Field>(
         &pair.first,
         &pair.second,
         work,
-        &mut message,
-        &mut word,
+        &mut found.message,
+        &mut found.word,
     )?;
-    Some(Candidate {
-        distance: distance as u8,
-        message,
-        word,
-    })
+    found.distance = distance as u8;
+    Some(found)
 }
 
 // Sifts the pair, and enters the candidate of the word that passes into the roll.
@@ -99,9 +95,5 @@ pub fn sift_pairs<F: Field>(
     for pair in pairs {
         enter::<F>(received, threshold, radius, rows, pair, work, &mut roll);
     }
-    roll.close(Candidate {
-        distance: 0,
-        message: [0; 32],
-        word: [0; 32],
-    })
+    roll.close(Candidate::BLANK)
 }

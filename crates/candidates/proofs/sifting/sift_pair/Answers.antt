@@ -14,8 +14,8 @@ returns-in-Break-distance g c C d =
     subst (Only (Passing F C (c .args .threshold) r (c .args .radius) w)) (sym (c .from-residual .ensures))
     (none-only F C (c .args .threshold) r (omega (arith, d .places)) (c .args .radius) w (c .in-Break-distance .ensures tt .sifted C d .0))
 
-pub cast-result : need.cast-result
-cast-result g c =
+pub cast-found : need.cast-found
+cast-found g c =
     let (C, d) = c .sift .ensures .code in
     omega (arith, short-distance (g .F·Field .numbers) C d (c .in-Continue-distance .ensures tt .sifted C d))
 

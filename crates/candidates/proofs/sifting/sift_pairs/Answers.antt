@@ -16,8 +16,7 @@ use Rattle.candidates.proofs.sifting.sift_pairs.Needs as need
 
 pub loop-pair-holds : need.loop-pair-holds
 loop-pair-holds g c =
-    let F = g .F·Field .numbers in
-    (
+    let F = g .F·Field .numbers in (
       subst (λ (n : ℕ). ListsSifted F (c .args .received .points .now) (c .args .received .multipliers .now) (c .args .received .shares .now) (c .args .rows .h1 .now) (c .args .rows .h2 .now) (c .args .threshold) (c .args .radius) [] (take n (c .new-roll .result .slots .now)))
           (sym (c .new-roll .ensures .empty))
           (none-sifted F (c .args .received .points .now) (c .args .received .multipliers .now) (c .args .received .shares .now) (c .args .rows .h1 .now) (c .args .rows .h2 .now) (c .args .threshold) (c .args .radius)),
