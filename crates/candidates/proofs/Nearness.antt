@@ -1,12 +1,12 @@
 -- Lists of what is sifted from pairs: with no pair, with one pair more; and with the right pairs, where they are the codewords near the shares.
-use mathlib.Core.Path.{_≡_, sym, _∙_, ap, ap₂, subst}
+use mathlib.Core.Path.{_≡_, sym, _∙_, ap, ap₂, subst, subst₂}
 use mathlib.Core.Bool.{Bool, true, false}
 use mathlib.Core.List.{List, [], _∷_, _++_}
 use mathlib.Core.Logic.{_⊎_, inl, inr, ⊎-elim}
-use Prim.Native.Nat.{ℕ, zero, suc, _+_, _≤_, _<_}
+use Prim.Native.Nat.{ℕ, zero, suc, _+_, _-_, _≤_, _<_}
 use native.Mathlib.Omega.{arith}
-use lib.ListN.{length, take, getD}
-use Rattle.std.proofs.shelf.Lists.{take-more}
+use lib.ListN.{length, take, getD, replicate}
+use Rattle.std.proofs.shelf.Lists.{take-all, take-more}
 use Rattle.decoding.specs.Code.{Code}
 use Rattle.decoding.specs.Setting.{Accepted}
 use Rattle.decoding.specs.Sift.{located, Passes}
@@ -18,13 +18,14 @@ use Rattle.fields.specs.Numbers.{Numbers, Element, ring-of, field-of}
 use Rattle.polynomials.specs.Series.{poly}
 use Rattle.leaves.specs.declared.pairs.Pair.{Pair}
 use Rattle.rolls.specs.Order.{Leads, Ascending, Has, Lists}
+use Rattle.rolls.specs.Insertion.{cleared}
 use Rattle.candidates.specs.declared.records.Candidate.{Candidate}
 use Rattle.candidates.specs.Order.{in-order}
 use Rattle.candidates.specs.Telling.{Passing, Close, blank}
 use Rattle.candidates.specs.Sifting.{locator, Enters, FromOne, OneOf, ListsSifted, ListsNear}
 use Rattle.candidates.proofs.Orders.{in-order-total}
 use Rattle.candidates.proofs.Telling.{tells-one}
-use Rattle.candidates.proofs.Entering.{restate, has-first, has-last, has-cases, has-at}
+use Rattle.candidates.proofs.Entering.{closed-items, closed-beyond, restate, has-first, has-last, has-cases, has-at}
 
 module _ (F : Numbers) (αs vs rs h₁ h₂ : List ℕ) (k τ : ℕ) where
   pub none-sifted : ListsSifted F αs vs rs h₁ h₂ k τ [] []
@@ -56,6 +57,19 @@ module _ (F : Numbers) (αs vs rs h₁ h₂ : List ℕ) (k τ : ℕ) where
       let x = getD pairs i p in
       subst (λ (ps : List Pair). Lists in-order (FromOne F C k τ rs h₁ h₂ ps) items′) (sym (take-more pairs i p h))
       (restate (after C d) (both C (take i pairs) x items (before C d)) (either C (take i pairs) x items (before C d)))
+
+  -- after all pairs, when the roll is closed: at the return `out` is what the closing left, `left`
+  pub closed-sifted : (pairs : List Pair) (i n r : ℕ) (slots left : List Candidate) {out : List Candidate} → length pairs ≤ i → n ≤ length slots → r ≡ n
+      → left ≡ cleared blank n slots → out ≡ left → ListsSifted F αs vs rs h₁ h₂ k τ (take i pairs) (take n slots)
+      → ListsSifted F αs vs rs h₁ h₂ k τ pairs (take r out)
+  closed-sifted pairs i n r slots left {out} h fits count held back l =
+      subst₂ (ListsSifted F αs vs rs h₁ h₂ k τ) (take-all i pairs h)
+      (sym (closed-items blank n slots out fits (back ∙ held)) ∙ ap (λ (m : ℕ). take m out) (sym count)) l
+
+pub closed-blank : (n r m : ℕ) (slots left : List Candidate) {out : List Candidate} → n ≤ length slots → r ≡ n → m ≡ length slots
+    → left ≡ cleared blank n slots → out ≡ left → out ≡ take r out ++ replicate (m - r) blank
+closed-blank n r m slots left {out} fits count long held back =
+    subst₂ (λ (a b : ℕ). out ≡ take a out ++ replicate (b - a) blank) (sym count) (sym long) (closed-beyond blank n slots out fits (back ∙ held))
 
 -- an ascending list has lesser items before greater ones
 leads-at : (c : Candidate) (items : List Candidate) (d : Candidate) → Leads in-order c items → (j : ℕ) → j < length items → in-order c (getD items j d) ≡ true

@@ -1,17 +1,13 @@
-use mathlib.Core.Path.{_≡_, sym, _∙_, ap, subst, subst₂}
-use mathlib.Core.List.{List, [], _++_}
-use Prim.Native.Nat.{ℕ, _-_, _≤_}
+use mathlib.Core.Path.{_≡_, sym, _∙_, ap, subst}
+use mathlib.Core.List.{[]}
+use Prim.Native.Nat.{ℕ, _≤_}
 use native.Mathlib.Omega.{arith}
-use lib.ListN.{length, take, getD, replicate}
-use Rattle.std.proofs.shelf.Lists.{take-all}
-use Rattle.leaves.specs.declared.pairs.Pair.{Pair}
-use Rattle.rolls.specs.Insertion.{cleared}
+use borrow.Author.Needs.{needs}
+use lib.ListN.{length, take}
 use Rattle.sift.proofs.Described.{described}
-use Rattle.candidates.specs.declared.records.Candidate.{Candidate}
-use Rattle.candidates.specs.Telling.{blank}
 use Rattle.candidates.specs.Sifting.{ListsSifted}
-use Rattle.candidates.proofs.Entering.{has-at, closed-items, closed-beyond}
-use Rattle.candidates.proofs.Nearness.{none-sifted, more-sifted, near}
+use Rattle.candidates.proofs.Entering.{has-at}
+use Rattle.candidates.proofs.Nearness.{none-sifted, more-sifted, closed-sifted, closed-blank, near}
 use Rattle.candidates.proofs.sifting.sift_pairs.Needs as need
 
 pub loop-pair-holds : need.loop-pair-holds
@@ -58,28 +54,27 @@ loop-pair-again g c = (
 pub close-requires : need.close-requires
 close-requires g c κs = omega (arith, ap length (c .new-roll .ensures .same))
 
+-- what the roll leaves is what the slots hold, since it was lent them and nothing else
 pub returns : need.returns
 returns g c =
     let F = g .F·Field .numbers in
     let n = c .loop-pair .roll .len in
     let slots = c .loop-pair .roll .slots .now in
     let same = ap length (c .new-roll .ensures .same) in
+    let tie = sym (c .loop-pair .inv .3 ∙ c .new-roll .ensures .lender) in
     let fits : n ≤ length slots = omega arith in
-    let out = c .slots·1 .given .0 in
-    let held : out ≡ cleared blank n slots = c .slots·1 .given .1 .1 (sym (c .loop-pair .inv .3 ∙ c .new-roll .ensures .lender)) ∙ c .close .ensures .holds in
-    let count : c .close .result ≡ n = c .close .ensures .count in
-    let items : take (c .close .result) out ≡ take n slots = ap (λ (m : ℕ). take m out) count ∙ closed-items blank n slots out fits held in
-    let all = take-all (c .loop-pair .pair-index) (c .args .pairs .now) (c .loop-pair-test .left) in
-    let sifted : ListsSifted F (c .args .received .points .now) (c .args .received .multipliers .now) (c .args .received .shares .now) (c .args .rows .h1 .now) (c .args .rows .h2 .now) (c .args .threshold) (c .args .radius) (c .args .pairs .now) (take (c .close .result) out) =
-    subst₂ (λ (ps : List Pair) (cs : List Candidate). ListsSifted F (c .args .received .points .now) (c .args .received .multipliers .now) (c .args .received .shares .now) (c .args .rows .h1 .now) (c .args .rows .h2 .now) (c .args .threshold) (c .args .radius) ps cs)
-    all (sym items) (c .loop-pair .inv .0) in
+    let long : length (c .args .slots .now) ≡ length slots = omega arith in
     record {
       count = omega arith;
-      sifted = sifted;
+      sifted =
+          closed-sifted F (c .args .received .points .now) (c .args .received .multipliers .now) (c .args .received .shares .now) (c .args .rows .h1 .now) (c .args .rows .h2 .now) (c .args .threshold) (c .args .radius)
+          (c .args .pairs .now) (c .loop-pair .pair-index) n (c .close .result) slots (c .close .last .self .0) (c .loop-pair-test .left) fits (c .close .ensures .count) (c .close .ensures .holds) (search needs)
+          (c .loop-pair .inv .0);
       near =
-          near F (c .args .received .points .now) (c .args .received .multipliers .now) (c .args .received .shares .now) (c .args .rows .h1 .now) (c .args .rows .h2 .now) (c .args .threshold) (c .args .radius) (c .args .pairs .now)
-          (take (c .close .result) out) sifted;
+          near F (c .args .received .points .now) (c .args .received .multipliers .now) (c .args .received .shares .now) (c .args .rows .h1 .now) (c .args .rows .h2 .now) (c .args .threshold) (c .args .radius) (c .args .pairs .now) _
+          (closed-sifted F (c .args .received .points .now) (c .args .received .multipliers .now) (c .args .received .shares .now) (c .args .rows .h1 .now) (c .args .rows .h2 .now) (c .args .threshold) (c .args .radius)
+          (c .args .pairs .now) (c .loop-pair .pair-index) n (c .close .result) slots (c .close .last .self .0) (c .loop-pair-test .left) fits (c .close .ensures .count) (c .close .ensures .holds) (search needs)
+          (c .loop-pair .inv .0));
       beyond =
-          subst₂ (λ (m l : ℕ). out ≡ take m out ++ replicate (l - m) blank) (sym count) (let l : length slots ≡ length (c .args .slots .now) = omega arith in l)
-          (closed-beyond blank n slots out fits held);
+          closed-blank n (c .close .result) (length (c .args .slots .now)) slots (c .close .last .self .0) fits (c .close .ensures .count) long (c .close .ensures .holds) (search needs);
     }
