@@ -62,19 +62,26 @@ module _ {X : Type 0} {less : X → X → Bool} (order : TotalOrder less) (room 
       pub wanted : (z : X) → WantedAt ds z → found ≡ Some z
       pub after : items s′ ≡ put found (items s)
 
-    pub chain-holds : (leaves : List (List ℕ)) {A : X → Type 0} (s s′ : S) → ((s : S) (ds : List ℕ) (s′ : S) → Has ds leaves → visits s ds s′ → Finds s ds s′) → Chain visits s leaves s′ → Holds A (items s) → Holds (λ z. A z ⊎ ((ds : List ℕ) × Has ds leaves × WantedAt ds z)) (items s′)
-    chain-holds [] {A} s s′ f c h =
-        subst (λ (m : S). Holds (λ z. A z ⊎ ((ds : List ℕ) × Has ds [] × WantedAt ds z)) (items m)) c
-        (holds-as h (λ z w. elim w [ inl a ↦ a | inr k ↦ elim (k .1) [ ] ]))
-    chain-holds (d ∷ ds) {A} s s′ f (m, v, c) h =
-        let x = f s d m (inl refl) v in
+    -- visits one after another, where something holds all along
+    pub chain-holds : (I : S → Type 0) (leaves : List (List ℕ)) {A : X → Type 0} (s s′ : S) → ((s : S) (ds : List ℕ) (s′ : S) → I s → visits s ds s′ → I s′ × Finds s ds s′) → Chain visits s leaves s′ → I s → Holds A (items s) → I s′ × Holds (λ z. A z ⊎ ((ds : List ℕ) × Has ds leaves × WantedAt ds z)) (items s′)
+    chain-holds I [] {A} s s′ f c i h = (
+      subst I c i,
+      subst (λ (m : S). Holds (λ z. A z ⊎ ((ds : List ℕ) × Has ds [] × WantedAt ds z)) (items m)) c
+          (holds-as h (λ z w. elim w [ inl a ↦ a | inr k ↦ elim (k .1) [ ] ])),
+    )
+    chain-holds I (d ∷ ds) {A} s s′ f (m, v, c) i h =
+        let y = f s d m i v in
+        let x = y .1 in
         let next : Holds (λ z. A z ⊎ (x .found ≡ Some z)) (items m) =
         subst (Holds (λ z. A z ⊎ (x .found ≡ Some z))) (sym (x .after)) (holds-put (x .found) (items s) h (x .good)) in
-        holds-as (chain-holds ds m s′ (λ a b e k. f a b e (inr k)) c next)
-        (λ z w. elim w [
-          | inl a ↦ inl (inl a)
-          | inr k ↦ elim (k .1) [
-            | inl e ↦ inl (inr (x .wanted z (subst (λ (l : List ℕ). WantedAt l z) e (k .2))))
-            | inr j ↦ inr (k .0, j, k .2)
-          ]
-        ])
+        let rest = chain-holds I ds m s′ f c (y .0) next in (
+          rest .0,
+          holds-as (rest .1)
+              (λ z w. elim w [
+                | inl a ↦ inl (inl a)
+                | inr k ↦ elim (k .1) [
+                  | inl e ↦ inl (inr (x .wanted z (subst (λ (l : List ℕ). WantedAt l z) e (k .2))))
+                  | inr j ↦ inr (k .0, j, k .2)
+                ]
+              ]),
+        )

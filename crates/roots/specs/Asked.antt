@@ -1,12 +1,14 @@
 -- The question of the roots call: what it is given, and what refuses it, in the order of the checks.
 use mathlib.Core.Bool.{Bool, true, false, cond, not}
 use mathlib.Core.List.{List, [], _∷_}
-use Prim.Native.Nat.{ℕ, _+_, _*_}
+use mathlib.Core.Path.{_≡_}
+use Prim.Native.Nat.{ℕ, _+_, _*_, _<_, _≤_}
 use denote.Ref.{now}
 use lib.Dec.{eqb, ltb}
 use lib.ListN.{length, getD}
 use Rattle.std.specs.declared.option.Option.{Option}
 use Rattle.std.specs.declared.option.Option.the-variants.{None, Some}
+use Rattle.fields.specs.Numbers.{AllBelow}
 use Rattle.codes.specs.First.{or-else, when, mapped}
 use Rattle.codes.specs.Codewords.{first-beyond}
 use Rattle.faults.specs.declared.ListingFault.{ListingFault}
@@ -53,3 +55,17 @@ areas-fault a records numbers =
 -- the first check that applies
 abbrev pub roots-fault : ℕ → Asked → ℕ → ℕ → Option ListingFault
 roots-fault q a records numbers = or-else (shape-fault a) (or-else (numbers-fault q a) (areas-fault a records numbers))
+
+-- what a question has that nothing refuses
+pub record Sized (q : ℕ) (a : Asked) (records numbers : ℕ) : Type 0 where
+  pub degree : 0 < a .ℓ
+  pub few : a .ℓ ≤ 8
+  pub wide : 0 < a .c
+  pub short : a .c ≤ 400
+  pub first : a .w₁ ≤ 31
+  pub second : a .w₂ ≤ 31
+  pub long : length (a .form) ≡ (a .ℓ + 1) * a .c
+  pub all : AllBelow q (a .form)
+  pub some : all-zero (a .form) ≡ false
+  pub enough : a .ℓ ≤ records
+  pub work : 400000 ≤ numbers
