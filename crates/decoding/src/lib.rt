@@ -10,58 +10,42 @@ pub trait OverField {
 }
 
 // Codewords that differ in fewer than n - k + 1 places are the same.
-pub fn minimum_distance_stands<F: OverField>() -> u8
+pub fn minimum_distance_stands<F: OverField>()
     ensures { λ _. ⌜ MinimumDistance (F·OverField .field) ⌝ }
-{
-    0
-}
+{}
 
 // The syndrome of a word gives the key equation of its errors against every codeword.
-pub fn key_equation_stands<F: OverField>() -> u8
+pub fn key_equation_stands<F: OverField>()
     ensures { λ _. ⌜ KeyEquation (F·OverField .field) ⌝ }
-{
-    0
-}
+{}
 
 // Under an accepted setting Euclid's algorithm stops, and there is an interpolant.
-pub fn interpolant_exists_stands<F: OverField>() -> u8
+pub fn interpolant_exists_stands<F: OverField>()
     ensures { λ _. ⌜ InterpolantExists (F·OverField .field) ⌝ }
-{
-    0
-}
+{}
 
 // For every code, accepted setting and word, and whatever interpolant is found, the words that are sifted from its rational roots are exactly
 // the codewords at distance at most τ.
-pub fn complete_stands<F: OverField>() -> u8
+pub fn complete_stands<F: OverField>()
     ensures { λ _. ⌜ Complete (F·OverField .field) ⌝ }
-{
-    0
-}
+{}
 
 // The same for a list of pairs that has the right ones.
-pub fn complete_list_stands<F: OverField>() -> u8
+pub fn complete_list_stands<F: OverField>()
     ensures { λ _. ⌜ CompleteList (F·OverField .field) ⌝ }
-{
-    0
-}
+{}
 
 // What is sifted from the right pairs, each word kept once, is the list of all codewords at distance at most τ, and has ℓ entries at most.
-pub fn sifted_listing_stands<F: OverField>() -> u8
+pub fn sifted_listing_stands<F: OverField>()
     ensures { λ _. ⌜ SiftedListing (F·OverField .field) ⌝ }
-{
-    0
-}
+{}
 
 // The walks over the digits of two charts find the rational roots.
-pub fn walks_find_roots_stand<F: OverField>() -> u8
+pub fn walks_find_roots_stand<F: OverField>()
     ensures { λ _. ⌜ WalksFindRoots (F·OverField .field) ⌝ }
-{
-    0
-}
+{}
 
 // There are never more than ℓ codewords at distance at most τ.
-pub fn at_most_stands<F: OverField>() -> u8
+pub fn at_most_stands<F: OverField>()
     ensures { λ _. ⌜ AtMost (F·OverField .field) ⌝ }
-{
-    0
-}
+{}
