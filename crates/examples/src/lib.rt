@@ -2,8 +2,6 @@
 ghost use Rattle.examples.specs.Worked.{Worked-cases};
 
 // All worked cases hold.
-pub fn worked_cases_stand() -> u8
+pub fn worked_cases_stand()
     ensures { λ _. ⌜ Worked-cases ⌝ }
-{
-    0
-}
+{}
