@@ -9,16 +9,16 @@ use Rattle.elimination.proofs.measure.Goals as goal
 pub loop-j-init : goal.loop-j-init
 loop-j-init g c = (rest_none c.args.size c.args.rows.now, λ i h. absurd (let z : i < 0 = h in omega arith))
 
-pub split-at-requires : goal.split-at-requires
-split-at-requires g c =
+pub split_at-requires : goal.split_at-requires
+split_at-requires g c =
     rest_room c.args.size c.loop-j.j (length c.args.values.now) c.args.rows.now c.loop-j.rest.now c.loop-j.invariant.0
     (omega arith) c.requires.room
 
 pub discrepancy-requires : goal.discrepancy-requires
 discrepancy-requires g c =
     let F = g.F.Field.numbers in
-    let e = rest_run c.args.size c.loop-j.j c.args.rows.now c.loop-j.rest.now c.split-at.result.0.now c.loop-j.invariant.0
-    c.split-at.ensures.front in
+    let e = rest_run c.args.size c.loop-j.j c.args.rows.now c.loop-j.rest.now c.split_at.result.0.now c.loop-j.invariant.0
+    c.split_at.ensures.front in
     record {
       first = subst (AllBelow F.q) (sym e) (run_below F c.args.size c.args.rows.now c.loop-j.j c.requires.first);
       second = c.requires.second;
@@ -34,9 +34,9 @@ loop-j-preserved g c =
     let cs = c.args.cs.now in
     let size = c.args.size in
     let j = c.loop-j.j in
-    let e = rest_run size j rows c.loop-j.rest.now c.split-at.result.0.now c.loop-j.invariant.0 c.split-at.ensures.front in
+    let e = rest_run size j rows c.loop-j.rest.now c.split_at.result.0.now c.loop-j.invariant.0 c.split_at.ensures.front in
     let P : ℕ → ℕ → Type 0 = λ i v. (v < F.q) × (get_or c.args.ranks.now i 0 < length xs → Discrepancy F (run size rows i) xs cs v) in (
-      rest_more size j rows c.loop-j.rest.now c.split-at.result.1.now c.loop-j.invariant.0 c.split-at.ensures.back,
+      rest_more size j rows c.loop-j.rest.now c.split_at.result.1.now c.loop-j.invariant.0 c.split_at.ensures.back,
       each_more P c.loop-j.values j c.if-ranks-j.values (omega arith) c.loop-j.invariant.1
           (elim c.if-ranks-j.branch [
             | then-ranks-j w ↦

@@ -14,8 +14,8 @@ measure-requires g c =
       fit = omega arith;
     }
 
-pub pivot-on-requires : goal.pivot-on-requires
-pivot-on-requires g c =
+pub pivot_on-requires : goal.pivot_on-requires
+pivot_on-requires g c =
     let h = c.in-Some.ensures in
     let e : length c.measure.new.values ≡ length c.args.cs.now = omega arith in
     record {
@@ -36,13 +36,13 @@ returns-in-Some g c =
     let xs = c.args.xs.now in
     let cs = c.args.cs.now in
     record {
-      below = c.pivot-on.ensures.below;
+      below = c.pivot_on.ensures.below;
       stepped =
           stepped_some F c.args.alpha xs cs rows ranks c.measure.new.values c.requires.ranked (omega arith)
           (subst (λ (n : ℕ). Measured F n rows ranks xs cs c.measure.new.values) c.requires.size c.measure.ensures) c.in-Some.p
-          c.pivot-on.new.rows c.pivot-on.new.ranks c.in-Some.ensures
-          (subst (λ (n : ℕ). Pivoted F n (length xs) c.args.alpha rows ranks c.measure.new.values c.in-Some.p c.pivot-on.new.rows c.pivot-on.new.ranks)
-          c.requires.size c.pivot-on.ensures);
+          c.pivot_on.new.rows c.pivot_on.new.ranks c.in-Some.ensures
+          (subst (λ (n : ℕ). Pivoted F n (length xs) c.args.alpha rows ranks c.measure.new.values c.in-Some.p c.pivot_on.new.rows c.pivot_on.new.ranks)
+          c.requires.size c.pivot_on.ensures);
     }
 
 pub returns-in-None : goal.returns-in-None

@@ -9,14 +9,14 @@ pub loop-j-init : goal.loop-j-init
 loop-j-init g c =
     (omega arith, sweep_none g.F.Field.numbers c.args.rows.now c.args.pivot.now c.args.values.now c.args.p c.requires.first)
 
-pub overflow-add-at : goal.overflow-add-at
-overflow-add-at g c =
+pub overflow_add-at : goal.overflow_add-at
+overflow_add-at g c =
     let u : c.loop-j.j * length c.args.pivot.now + length c.args.pivot.now ≤ length c.args.rows.now =
     run_room c.loop-j.j (length c.args.values.now) (length c.args.pivot.now) (length c.args.rows.now) c.loop-j-test.true c.requires.room in
     omega arith
 
-pub add-pivot-requires : goal.add-pivot-requires
-add-pivot-requires g c =
+pub add_pivot-requires : goal.add_pivot-requires
+add_pivot-requires g c =
     let F = g.F.Field.numbers in
     let u : c.loop-j.j * length c.args.pivot.now + length c.args.pivot.now ≤ length c.args.rows.now =
     run_room c.loop-j.j (length c.args.values.now) (length c.args.pivot.now) (length c.args.rows.now) c.loop-j-test.true c.requires.room in
@@ -40,10 +40,10 @@ loop-j-preserved g c =
       elim c.if-j-p.branch [
         | then-j-p+then-values-j-ne0 w ↦
             subst (Sweeping F (length pivot) rows pivot values p (j + 1)) (sym w.rows-is)
-            (sweep_turn F rows pivot values p j w.neg.result c.loop-j.rows w.add-pivot.new.rows w.if-j-p.true
+            (sweep_turn F rows pivot values p j w.neg.result c.loop-j.rows w.add_pivot.new.rows w.if-j-p.true
             (w.neg.ensures ∙ ap F.neg (w.mul-ratio.ensures ∙ ap (F.mul (get_or values j 0)) c.inv-inverse.ensures))
-            (subst (λ (k : ℕ). Reads F w.add-pivot.new.rows (plus_shifted F (poly F c.loop-j.rows) w.neg.result k (poly F pivot)))
-            c.loop-j.invariant.0 w.add-pivot.ensures)
+            (subst (λ (k : ℕ). Reads F w.add_pivot.new.rows (plus_shifted F (poly F c.loop-j.rows) w.neg.result k (poly F pivot)))
+            c.loop-j.invariant.0 w.add_pivot.ensures)
             c.loop-j.invariant.1)
         | else-j-p w ↦
             subst (Sweeping F (length pivot) rows pivot values p (j + 1)) (sym w.rows-is)

@@ -11,16 +11,16 @@ loop-t-init g c =
     let F = g.F.Field.numbers in
     (rest_none (length c.args.xs.now) c.args.row.now, pos F, sum_none F (term F c.args.row.now c.args.xs.now c.args.cs.now))
 
-pub split-at-requires : goal.split-at-requires
-split-at-requires g c =
+pub split_at-requires : goal.split_at-requires
+split_at-requires g c =
     rest_room (length c.args.xs.now) c.loop-t.t (length c.args.cs.now) c.args.row.now c.loop-t.rest.now c.loop-t.invariant.0
     c.loop-t-test.true c.requires.room
 
 pub dot-requires : goal.dot-requires
 dot-requires g c =
     let F = g.F.Field.numbers in
-    let e = rest_run (length c.args.xs.now) c.loop-t.t c.args.row.now c.loop-t.rest.now c.split-at.result.0.now c.loop-t.invariant.0
-    c.split-at.ensures.front in
+    let e = rest_run (length c.args.xs.now) c.loop-t.t c.args.row.now c.loop-t.rest.now c.split_at.result.0.now c.loop-t.invariant.0
+    c.split_at.ensures.front in
     record {
       first = subst (AllBelow F.q) (sym e) (run_below F (length c.args.xs.now) c.args.row.now c.loop-t.t c.requires.first);
       second = c.requires.second;
@@ -37,15 +37,15 @@ loop-t-preserved g c =
     let xs = c.args.xs.now in
     let cs = c.args.cs.now in
     let t = c.loop-t.t in
-    let front = c.split-at.result.0.now in
-    let e = rest_run (length xs) t row c.loop-t.rest.now front c.loop-t.invariant.0 c.split-at.ensures.front in
-    let back = rest_more (length xs) t row c.loop-t.rest.now c.split-at.result.1.now c.loop-t.invariant.0 c.split-at.ensures.back in
+    let front = c.split_at.result.0.now in
+    let e = rest_run (length xs) t row c.loop-t.rest.now front c.loop-t.invariant.0 c.split_at.ensures.front in
+    let back = rest_more (length xs) t row c.loop-t.rest.now c.split_at.result.1.now c.loop-t.invariant.0 c.split_at.ensures.back in
     elim c.if-cs-t-ne0.branch [
       | then-cs-t-ne0 w ↦
           let m =
           sum_more F (term F row xs cs) t c.loop-t.sum (get_or cs t 0) w.dot.result w.add-sum.result c.loop-t.invariant.1
           (c.requires.third t (omega arith)) w.dot.ensures.below c.loop-t.invariant.2
-          (term_is F row xs cs front t w.dot.result e c.split-at.ensures.front-len w.dot.ensures.is)
+          (term_is F row xs cs front t w.dot.result e c.split_at.ensures.front_len w.dot.ensures.is)
           (w.add-sum.ensures ∙ ap (F.add c.loop-t.sum) w.product.ensures) in
           let n = subst (λ (r : ℕ). (r < F.q) × (elem F r ≡ sum (ring_of F) (t + 1) (term F row xs cs))) (sym w.sum-is) m in
           (back, n.0, n.1)

@@ -11,8 +11,8 @@ returns-then-i-size-eq0 g c =
     entry_left g.F.Field.numbers c.args.alpha c.args.size c.requires.some c.args.table.now c.args.i c.requires.before c.if-i-eq0.false
     c.if-i-size-eq0.true
 
-pub overflow-sub-i-else-i-size-2 : goal.overflow-sub-i-else-i-size-2
-overflow-sub-i-else-i-size-2 g c = past_row c.args.i c.args.size c.if-i-size-eq0.false c.if-i-size.false
+pub overflow_sub-i-else-i-size-2 : goal.overflow_sub-i-else-i-size-2
+overflow_sub-i-else-i-size-2 g c = past_row c.args.i c.args.size c.if-i-size-eq0.false c.if-i-size.false
 
 pub returns-then-i-size : goal.returns-then-i-size
 returns-then-i-size g c =

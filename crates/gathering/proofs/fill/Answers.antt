@@ -6,8 +6,8 @@ use Rattle.gathering.proofs.fill.Goals as goal
 pub returns : goal.returns
 returns g c =
     let told = g.S.Source.told c.args.source.now in
-    let a = c.in-ok-copy.ensures in
-    let b = c.in-ok-check-elements.ensures in
+    let a = c.in_ok-copy.ensures in
+    let b = c.in_ok-check_elements.ensures in
     record {
       fault = pass_both (empty_fault told) (element_fault c.args.q (numbers told)) a.fault
           (b ∙ ap (λ (xs : List ℕ). element_fault c.args.q xs) a.shares);

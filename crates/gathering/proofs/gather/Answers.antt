@@ -10,8 +10,8 @@ use Rattle.gathering.proofs.gather.Goals as goal
 pub returns : goal.returns
 returns g c =
     let told = g.S.Source.told c.args.source.now in
-    let a = c.in-ok-check-count.ensures in
-    let b = c.in-ok-fill.ensures in
+    let a = c.in_ok-check_count.ensures in
+    let b = c.in_ok-fill.ensures in
     let n = same_count c.args.count told a in
     let long : length c.fill.new.out ≡ c.args.count = omega arith in
     let front = take_at c.fill.new.out _ c.args.count long in

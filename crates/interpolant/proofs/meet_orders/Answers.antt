@@ -8,17 +8,17 @@ use Rattle.interpolant.proofs.meet_orders.Goals as goal
 pub loop-a-init : goal.loop-a-init
 loop-a-init g c = (c.requires.first, rest_none c.args.bound c.args.taylor.now, λ P s i b h o v. v)
 
-pub split-at-requires : goal.split-at-requires
-split-at-requires g c =
+pub split_at-requires : goal.split_at-requires
+split_at-requires g c =
     rest_room c.args.bound c.loop-a.a c.args.count c.args.taylor.now c.loop-a.rest.now c.loop-a.invariant.1 c.loop-a-test.true
     c.requires.orders
 
 pub step-requires : goal.step-requires
 step-requires g c =
     let F = g.F.Field.numbers in
-    let e = rest_run c.args.bound c.loop-a.a c.args.taylor.now c.loop-a.rest.now c.split-at.result.0.now c.loop-a.invariant.1
-    c.split-at.ensures.front in
-    let l : length c.split-at.result.0.now ≡ c.args.bound = c.split-at.ensures.front-len in
+    let e = rest_run c.args.bound c.loop-a.a c.args.taylor.now c.loop-a.rest.now c.split_at.result.0.now c.loop-a.invariant.1
+    c.split_at.ensures.front in
+    let l : length c.split_at.result.0.now ≡ c.args.bound = c.split_at.ensures.front_len in
     let p : length c.loop-a.pivot ≡ length c.args.pivot.now = omega arith in
     let r : length c.loop-a.rows ≡ length c.args.rows.now = omega arith in
     record {
@@ -39,10 +39,10 @@ loop-a-preserved g c =
     let B = c.args.bound in
     let a = c.loop-a.a in
     let taylor = c.args.taylor.now in
-    let e = rest_run B a taylor c.loop-a.rest.now c.split-at.result.0.now c.loop-a.invariant.1 c.split-at.ensures.front in (
+    let e = rest_run B a taylor c.loop-a.rest.now c.split_at.result.0.now c.loop-a.invariant.1 c.split_at.ensures.front in (
       c.step.ensures.below,
-      rest_more B a taylor c.loop-a.rest.now c.split-at.result.1.now c.loop-a.invariant.1 c.split-at.ensures.back,
-      orders_turn F B c.args.alpha a taylor c.args.cs.now c.split-at.result.0.now c.args.rows.now c.args.ranks.now c.loop-a.rows
+      rest_more B a taylor c.loop-a.rest.now c.split_at.result.1.now c.loop-a.invariant.1 c.split_at.ensures.back,
+      orders_turn F B c.args.alpha a taylor c.args.cs.now c.split_at.result.0.now c.args.rows.now c.args.ranks.now c.loop-a.rows
           c.loop-a.ranks c.step.new.rows c.step.new.ranks c.requires.second
           (run_room a c.args.count B (length taylor) c.loop-a-test.true c.requires.orders) e c.step.ensures.stepped c.loop-a.invariant.2,
     )

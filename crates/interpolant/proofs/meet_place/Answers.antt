@@ -8,20 +8,20 @@ use Rattle.interpolant.proofs.meet_place.Goals as goal
 pub loop-b-init : goal.loop-b-init
 loop-b-init g c = (c.requires.first, rest_none (length c.args.values.now) c.args.weights.now, λ σ w P i o v. v)
 
-pub split-at-requires : goal.split-at-requires
-split-at-requires g c =
+pub split_at-requires : goal.split_at-requires
+split_at-requires g c =
     let n : length c.loop-b.values ≡ length c.args.values.now = omega arith in
     subst (λ (k : ℕ). k ≤ length c.loop-b.rest.now) (sym n)
     (rest_room (length c.args.values.now) c.loop-b.b c.args.multiplicity c.args.weights.now c.loop-b.rest.now c.loop-b.invariant.1
     c.loop-b-test.true c.requires.wide)
 
-pub meet-orders-requires : goal.meet-orders-requires
-meet-orders-requires g c =
+pub meet_orders-requires : goal.meet_orders-requires
+meet_orders-requires g c =
     let F = g.F.Field.numbers in
-    let n : length c.args.values.now ≡ length c.split-at.result.0.now = let u = c.split-at.ensures.front-len in omega arith in
+    let n : length c.args.values.now ≡ length c.split_at.result.0.now = let u = c.split_at.ensures.front_len in omega arith in
     let p : length c.args.pivot.now ≡ length c.loop-b.pivot = omega arith in
     let e = front_is (length c.args.values.now) (length c.loop-b.values) c.loop-b.b c.args.weights.now c.loop-b.rest.now
-    c.split-at.result.0.now (omega arith) c.loop-b.invariant.1 c.split-at.ensures.front in
+    c.split_at.result.0.now (omega arith) c.loop-b.invariant.1 c.split_at.ensures.front in
     let less : (c.args.multiplicity - c.loop-b.b) * c.args.bound ≤ c.args.multiplicity * c.args.bound =
     mul-le-mul_right c.args.bound (omega arith) in
     let tall = c.requires.tall in
@@ -32,9 +32,9 @@ meet-orders-requires g c =
       third = subst (AllBelow F.q) (sym e) (run_below F (length c.args.values.now) c.args.weights.now c.loop-b.b c.requires.third);
       ranked = omega arith;
       valued = omega arith;
-      size = same_size (length c.args.values.now) (length c.split-at.result.0.now) c.args.bound (length c.args.pivot.now) (length c.loop-b.pivot) n p
+      size = same_size (length c.args.values.now) (length c.split_at.result.0.now) c.args.bound (length c.args.pivot.now) (length c.loop-b.pivot) n p
           c.requires.size;
-      room = same_room (length c.args.values.now) (length c.split-at.result.0.now) (length c.args.pivot.now) (length c.loop-b.pivot)
+      room = same_room (length c.args.values.now) (length c.split_at.result.0.now) (length c.args.pivot.now) (length c.loop-b.pivot)
           (length c.args.rows.now) (length c.loop-b.rows) n p (omega arith) c.requires.room;
       orders = omega arith;
     }
@@ -46,13 +46,13 @@ loop-b-preserved g c =
     let b = c.loop-b.b in
     let weights = c.args.weights.now in
     let same : length c.loop-b.values ≡ length c.args.values.now = omega arith in (
-      c.meet-orders.ensures.below,
-      back_is n (length c.loop-b.values) b weights c.loop-b.rest.now c.split-at.result.1.now same c.loop-b.invariant.1 c.split-at.ensures.back,
-      row_turn F n c.args.bound c.args.alpha c.args.multiplicity b weights c.split-at.result.0.now c.args.rows.now c.args.ranks.now
-          c.loop-b.rows c.loop-b.ranks c.meet-orders.new.rows c.meet-orders.new.ranks c.loop-b-test.true
+      c.meet_orders.ensures.below,
+      back_is n (length c.loop-b.values) b weights c.loop-b.rest.now c.split_at.result.1.now same c.loop-b.invariant.1 c.split_at.ensures.back,
+      row_turn F n c.args.bound c.args.alpha c.args.multiplicity b weights c.split_at.result.0.now c.args.rows.now c.args.ranks.now
+          c.loop-b.rows c.loop-b.ranks c.meet_orders.new.rows c.meet_orders.new.ranks c.loop-b-test.true
           (run_room b c.args.multiplicity n (length weights) c.loop-b-test.true c.requires.wide)
-          (front_is n (length c.loop-b.values) b weights c.loop-b.rest.now c.split-at.result.0.now same c.loop-b.invariant.1 c.split-at.ensures.front)
-          c.meet-orders.ensures.met c.loop-b.invariant.2,
+          (front_is n (length c.loop-b.values) b weights c.loop-b.rest.now c.split_at.result.0.now same c.loop-b.invariant.1 c.split_at.ensures.front)
+          c.meet_orders.ensures.met c.loop-b.invariant.2,
     )
 
 pub returns : goal.returns

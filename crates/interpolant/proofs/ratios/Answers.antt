@@ -7,10 +7,10 @@ use Rattle.functionals.proofs.Runs.{each_more}
 use Rattle.interpolant.proofs.ratios.Goals as goal
 
 pub evaluate-requires : goal.evaluate-requires
-evaluate-requires g c = record { point = c.requires.all c.loop-i.i (omega arith); all = c.requires.all-h11 }
+evaluate-requires g c = record { point = c.requires.all c.loop-i.i (omega arith); all = c.requires.all_h11 }
 
 pub evaluate-requires-in-loop-i : goal.evaluate-requires-in-loop-i
-evaluate-requires-in-loop-i g c = record { point = c.requires.all c.loop-i.i (omega arith); all = c.requires.all-h21 }
+evaluate-requires-in-loop-i g c = record { point = c.requires.all c.loop-i.i (omega arith); all = c.requires.all_h21 }
 
 pub loop-i-preserved : goal.loop-i-preserved
 loop-i-preserved g c =

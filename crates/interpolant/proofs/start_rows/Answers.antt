@@ -7,8 +7,8 @@ use Rattle.interpolant.proofs.start_rows.Goals as goal
 pub loop-i-init : goal.loop-i-init
 loop-i-init g c = written_none 0 _ _
 
-pub overflow-mul-i : goal.overflow-mul-i
-overflow-mul-i g c = let u = first_fits c.args.size c.args.bound c.loop-i.i c.requires.fit in omega arith
+pub overflow_mul-i : goal.overflow_mul-i
+overflow_mul-i g c = let u = first_fits c.args.size c.args.bound c.loop-i.i c.requires.fit in omega arith
 
 pub loop-i-preserved : goal.loop-i-preserved
 loop-i-preserved g c =

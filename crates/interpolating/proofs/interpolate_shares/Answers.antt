@@ -10,38 +10,38 @@ use Rattle.interpolating.proofs.Bounds.{front_fits, rooms, enough, h11_below, h2
 use Rattle.interpolating.proofs.Stage.{weight_refused, weight_passed, left_behind, weights_are, areas_are, interpolated}
 use Rattle.interpolating.proofs.interpolate_shares.Goals as goal
 
-pub returns-in-err-shape : goal.returns-in-err-shape
-returns-in-err-shape g c =
+pub returns-in_err-shape : goal.returns-in_err-shape
+returns-in_err-shape g c =
     let F = g.F.Field.numbers in
-    let p = err_from_is_err_and c.from-residual.result c.from-residual.ensures.1 in
+    let p = err_from_is_err_and c.from_residual.result c.from_residual.ensures.1 in
     let αs = c.args.points.now in
     let vs = c.args.multipliers.now in
     let rs = c.args.shares.now in
-    let f : Finds (basis F αs vs c.args.threshold rs) c.args.setting.radius c.find-basis-basis.result =
-    subst (λ (k : ℕ). Finds (basis F αs vs k rs) c.args.setting.radius c.find-basis-basis.result) c.from.ensures c.find-basis-basis.ensures in
+    let f : Finds (basis F αs vs c.args.threshold rs) c.args.setting.radius c.find_basis-basis.result =
+    subst (λ (k : ℕ). Finds (basis F αs vs k rs) c.args.setting.radius c.find_basis-basis.result) c.from.ensures c.find_basis-basis.ensures in
     record {
       fault = ap fault_of p.1 ∙ ap Some p.2
-          ∙ weight_refused F αs vs c.args.threshold c.args.setting rs (length c.args.out.now) (length c.args.work.now) c.find-basis-basis.result.w1
-          c.find-basis-basis.result.w2 c.in-err-shape.field-0.0 f.first_weight f.second_weight c.in-err-shape.ensures.fault;
-      area = left_behind F αs vs c.args.threshold c.args.setting rs c.from-residual.result p.0 c.args.out.now p.1;
+          ∙ weight_refused F αs vs c.args.threshold c.args.setting rs (length c.args.out.now) (length c.args.work.now) c.find_basis-basis.result.w1
+          c.find_basis-basis.result.w2 c.in_err-shape.field-0.0 f.first_weight f.second_weight c.in_err-shape.ensures.fault;
+      area = left_behind F αs vs c.args.threshold c.args.setting rs c.from_residual.result p.0 c.args.out.now p.1;
     }
 
-pub returns-in-err-check-areas : goal.returns-in-err-check-areas
-returns-in-err-check-areas g c =
+pub returns-in_err-check_areas : goal.returns-in_err-check_areas
+returns-in_err-check_areas g c =
     let F = g.F.Field.numbers in
     let αs = c.args.points.now in
     let vs = c.args.multipliers.now in
     let rs = c.args.shares.now in
     let k = c.args.threshold in
     let x = c.args.setting in
-    let f : Finds (basis F αs vs c.args.threshold rs) c.args.setting.radius c.find-basis-basis.result =
-    subst (λ (k : ℕ). Finds (basis F αs vs k rs) c.args.setting.radius c.find-basis-basis.result) c.from.ensures c.find-basis-basis.ensures in
-    let p = err_from_is_err_and c.from-residual-in-err-check-areas.result c.from-residual-in-err-check-areas.ensures.1 in
+    let f : Finds (basis F αs vs c.args.threshold rs) c.args.setting.radius c.find_basis-basis.result =
+    subst (λ (k : ℕ). Finds (basis F αs vs k rs) c.args.setting.radius c.find_basis-basis.result) c.from.ensures c.find_basis-basis.ensures in
+    let p = err_from_is_err_and c.from_residual-in_err-check_areas.result c.from_residual-in_err-check_areas.ensures.1 in
     record {
       fault = ap fault_of p.1 ∙ ap Some p.2
-          ∙ weight_passed F αs vs k x rs (length c.args.out.now) (length c.args.work.now) c.find-basis-basis.result.w1 c.find-basis-basis.result.w2
-          (Some c.in-err-check-areas.field-0.0) f.first_weight f.second_weight c.in-ok-shape.ensures.fault c.in-err-check-areas.ensures;
-      area = left_behind F αs vs k x rs c.from-residual-in-err-check-areas.result p.0 c.args.out.now p.1;
+          ∙ weight_passed F αs vs k x rs (length c.args.out.now) (length c.args.work.now) c.find_basis-basis.result.w1 c.find_basis-basis.result.w2
+          (Some c.in_err-check_areas.field-0.0) f.first_weight f.second_weight c.in_ok-shape.ensures.fault c.in_err-check_areas.ensures;
+      area = left_behind F αs vs k x rs c.from_residual-in_err-check_areas.result p.0 c.args.out.now p.1;
     }
 
 pub row-requires : goal.row-requires
@@ -52,9 +52,9 @@ row-requires g c =
     let rs = c.args.shares.now in
     let k = c.args.threshold in
     let x = c.args.setting in
-    let f : Finds (basis F αs vs c.args.threshold rs) c.args.setting.radius c.find-basis-basis.result =
-    subst (λ (k : ℕ). Finds (basis F αs vs k rs) c.args.setting.radius c.find-basis-basis.result) c.from.ensures c.find-basis-basis.ensures in
-    front_fits c.find-basis-basis.result.d c.find-basis-basis.result.h11 _ f.h11
+    let f : Finds (basis F αs vs c.args.threshold rs) c.args.setting.radius c.find_basis-basis.result =
+    subst (λ (k : ℕ). Finds (basis F αs vs k rs) c.args.setting.radius c.find_basis-basis.result) c.from.ensures c.find_basis-basis.ensures in
+    front_fits c.find_basis-basis.result.d c.find_basis-basis.result.h11 _ f.h11
     (h11_length F αs vs k rs c.requires.points c.requires.multipliers c.requires.shares ∙ f.size)
 
 pub row-requires-2 : goal.row-requires-2
@@ -65,9 +65,9 @@ row-requires-2 g c =
     let rs = c.args.shares.now in
     let k = c.args.threshold in
     let x = c.args.setting in
-    let f : Finds (basis F αs vs c.args.threshold rs) c.args.setting.radius c.find-basis-basis.result =
-    subst (λ (k : ℕ). Finds (basis F αs vs k rs) c.args.setting.radius c.find-basis-basis.result) c.from.ensures c.find-basis-basis.ensures in
-    front_fits c.find-basis-basis.result.d c.find-basis-basis.result.h21 _ f.h21
+    let f : Finds (basis F αs vs c.args.threshold rs) c.args.setting.radius c.find_basis-basis.result =
+    subst (λ (k : ℕ). Finds (basis F αs vs k rs) c.args.setting.radius c.find_basis-basis.result) c.from.ensures c.find_basis-basis.ensures in
+    front_fits c.find_basis-basis.result.d c.find_basis-basis.result.h21 _ f.h21
     (h21_length F αs vs k rs c.requires.points c.requires.multipliers c.requires.shares ∙ f.size)
 
 pub write-requires : goal.write-requires
@@ -78,15 +78,15 @@ write-requires g c =
     let rs = c.args.shares.now in
     let k = c.args.threshold in
     let x = c.args.setting in
-    let f : Finds (basis F αs vs c.args.threshold rs) c.args.setting.radius c.find-basis-basis.result =
-    subst (λ (k : ℕ). Finds (basis F αs vs k rs) c.args.setting.radius c.find-basis-basis.result) c.from.ensures c.find-basis-basis.ensures in
-    let S = c.in-ok-shape.shape in
-    let e = c.in-ok-shape.ensures.shape in
-    let w = weights_are c.find-basis-basis.result.w1 c.find-basis-basis.result.w2 c.in-ok-shape.ensures.fault in
-    let a = areas_are (length αs) x (length c.args.out.now) (length c.args.work.now) c.in-ok-check-areas.ensures in
-    let d : c.in-ok-shape.shape.degree ≡ c.args.setting.list_limit = ap (λ (T : Shape). T.degree) e in
-    let m : c.in-ok-shape.shape.multiplicity ≡ c.args.setting.multiplicity = ap (λ (T : Shape). T.multiplicity) e in
-    let b : c.in-ok-shape.shape.bound ≡ c.args.setting.multiplicity * c.args.setting.radius = ap (λ (T : Shape). T.bound) e in
+    let f : Finds (basis F αs vs c.args.threshold rs) c.args.setting.radius c.find_basis-basis.result =
+    subst (λ (k : ℕ). Finds (basis F αs vs k rs) c.args.setting.radius c.find_basis-basis.result) c.from.ensures c.find_basis-basis.ensures in
+    let S = c.in_ok-shape.shape in
+    let e = c.in_ok-shape.ensures.shape in
+    let w = weights_are c.find_basis-basis.result.w1 c.find_basis-basis.result.w2 c.in_ok-shape.ensures.fault in
+    let a = areas_are (length αs) x (length c.args.out.now) (length c.args.work.now) c.in_ok-check_areas.ensures in
+    let d : c.in_ok-shape.shape.degree ≡ c.args.setting.list_limit = ap (λ (T : Shape). T.degree) e in
+    let m : c.in_ok-shape.shape.multiplicity ≡ c.args.setting.multiplicity = ap (λ (T : Shape). T.multiplicity) e in
+    let b : c.in_ok-shape.shape.bound ≡ c.args.setting.multiplicity * c.args.setting.radius = ap (λ (T : Shape). T.bound) e in
     let few = rooms S (length αs) k x.radius x.multiplicity x.list_limit c.requires.accepted c.requires.short d m b in
     let room : 32000 ≤ length c.args.work.now = a.1 in
     let short : c.args.setting.list_limit ≤ 8 = c.requires.accepted.short in
@@ -110,13 +110,13 @@ returns g c =
     let rs = c.args.shares.now in
     let k = c.args.threshold in
     let x = c.args.setting in
-    let f : Finds (basis F αs vs c.args.threshold rs) c.args.setting.radius c.find-basis-basis.result =
-    subst (λ (k : ℕ). Finds (basis F αs vs k rs) c.args.setting.radius c.find-basis-basis.result) c.from.ensures c.find-basis-basis.ensures in
+    let f : Finds (basis F αs vs c.args.threshold rs) c.args.setting.radius c.find_basis-basis.result =
+    subst (λ (k : ℕ). Finds (basis F αs vs k rs) c.args.setting.radius c.find_basis-basis.result) c.from.ensures c.find_basis-basis.ensures in
     record {
-      fault = weight_passed F αs vs k x rs (length c.args.out.now) (length c.args.work.now) c.find-basis-basis.result.w1 c.find-basis-basis.result.w2 None
-          f.first_weight f.second_weight c.in-ok-shape.ensures.fault c.in-ok-check-areas.ensures;
+      fault = weight_passed F αs vs k x rs (length c.args.out.now) (length c.args.work.now) c.find_basis-basis.result.w1 c.find_basis-basis.result.w2 None
+          f.first_weight f.second_weight c.in_ok-shape.ensures.fault c.in_ok-check_areas.ensures;
       area =
-          interpolated F αs vs k x rs c.in-ok-shape.shape c.row.result.now c.row-2.result.now c.args.out.now c.write.new.out
-          (c.in-ok-shape.ensures.shape ∙ ap₂ (shape_of x) f.first_weight f.second_weight) (c.row.ensures ∙ f.h11) (c.row-2.ensures ∙ f.h21)
+          interpolated F αs vs k x rs c.in_ok-shape.shape c.row.result.now c.row-2.result.now c.args.out.now c.write.new.out
+          (c.in_ok-shape.ensures.shape ∙ ap₂ (shape_of x) f.first_weight f.second_weight) (c.row.ensures ∙ f.h11) (c.row-2.ensures ∙ f.h21)
           c.write.ensures.solution c.write.ensures.decodes c.write.ensures.rest;
     }

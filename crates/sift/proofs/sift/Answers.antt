@@ -7,8 +7,8 @@ use Rattle.sift.specs.Received.{Passed, NonePasses}
 use Rattle.sift.proofs.Described.{described}
 use Rattle.sift.proofs.sift.Goals as goal
 
-pub sift-by-requires : goal.sift-by-requires
-sift-by-requires g c =
+pub sift_by-requires : goal.sift_by-requires
+sift_by-requires g c =
     let F = g.F.Field.numbers in
     record {
       placed = c.requires.placed;
@@ -16,7 +16,7 @@ sift-by-requires g c =
       fewer = c.requires.fewer;
       low = subst (Below (ring_of F) (length c.args.received.points.now - c.args.threshold + 1)) (sym c.locate.ensures.is) c.requires.low;
       room = omega arith;
-      message-room = c.requires.message-room;
+      message_room = c.requires.message_room;
       word_room = c.requires.word_room;
     }
 
@@ -26,7 +26,7 @@ returns-in-Some g c =
     record {
       code = described F c.requires.placed;
       sifted = λ C d.
-          subst (λ (w : ℕ → Element F). Passed F C c.args.threshold c.args.radius (poly F c.args.received.shares.now) w c.in-Some.distance c.sift-by.new.message c.sift-by.new.word)
+          subst (λ (w : ℕ → Element F). Passed F C c.args.threshold c.args.radius (poly F c.args.received.shares.now) w c.in-Some.distance c.sift_by.new.message c.sift_by.new.word)
           c.locate.ensures.is (c.in-Some.ensures C d);
     }
 

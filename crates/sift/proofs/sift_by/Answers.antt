@@ -19,36 +19,36 @@ recover-requires g c =
       each = omega arith;
       enough =
           subst (λ (k : ℕ). k + count (length c.args.received.points.now) (vanishes c.splits.new.values) ≤ length c.args.received.points.now)
-          (let e : c.args.threshold ≡ length c.split-at-mut-xs.result.0.now = omega arith in e)
+          (let e : c.args.threshold ≡ length c.split_at_mut-xs.result.0.now = omega arith in e)
           (enough g.F.Field.numbers c.requires.placed c.splits.ensures.written c.args.threshold (c.if-not-splits.ensures.yes tt) c.requires.fewer c.requires.low);
       room = omega arith;
-      node-room = omega arith;
-      message-room = omega arith;
+      node_room = omega arith;
+      message_room = omega arith;
       word_room = omega arith;
     }
 
-pub returns-in-err-distance : goal.returns-in-err-distance
-returns-in-err-distance g c C d =
+pub returns-in_err-distance : goal.returns-in_err-distance
+returns-in_err-distance g c C d =
     let F = g.F.Field.numbers in
-    let b = c.in-err-distance.ensures in
-    let t = resized c.recover.ensures (let e : length c.split-at-mut-xs.result.0.now ≡ c.args.threshold = omega arith in e) in
+    let b = c.in_err-distance.ensures in
+    let t = resized c.recover.ensures (let e : length c.split_at_mut-xs.result.0.now ≡ c.args.threshold = omega arith in e) in
     let l : c.args.threshold ≤ length c.recover.new.message = omega arith in
     subst (λ (o : Option ℕ). Found F C c.args.threshold c.args.radius (poly F c.args.received.shares.now) (poly F c.args.locator.now) o c.recover.new.message c.recover.new.word)
-    (sym c.from-residual.ensures)
+    (sym c.from_residual.ensures)
     (none_off F c.requires.placed c.splits.ensures.written C d c.args.threshold c.args.radius t l b.0 b.1 b.2 b.3)
 
 pub returns-then-distance-radius : goal.returns-then-distance-radius
 returns-then-distance-radius g c C d =
-    let b = c.in-ok-distance.ensures in
-    let t = resized c.recover.ensures (let e : length c.split-at-mut-xs.result.0.now ≡ c.args.threshold = omega arith in e) in
+    let b = c.in_ok-distance.ensures in
+    let t = resized c.recover.ensures (let e : length c.split_at_mut-xs.result.0.now ≡ c.args.threshold = omega arith in e) in
     let l : c.args.threshold ≤ length c.recover.new.message = omega arith in
     passed g.F.Field.numbers c.requires.placed c.splits.ensures.written C d c.args.threshold c.args.radius t l
-    (c.if-not-splits.ensures.yes tt) c.in-ok-distance.distance b.0 b.1 (omega arith)
+    (c.if-not-splits.ensures.yes tt) c.in_ok-distance.distance b.0 b.1 (omega arith)
 
 pub returns-else-distance-radius : goal.returns-else-distance-radius
 returns-else-distance-radius g c C d =
-    let b = c.in-ok-distance.ensures in
-    let t = resized c.recover.ensures (let e : length c.split-at-mut-xs.result.0.now ≡ c.args.threshold = omega arith in e) in
+    let b = c.in_ok-distance.ensures in
+    let t = resized c.recover.ensures (let e : length c.split_at_mut-xs.result.0.now ≡ c.args.threshold = omega arith in e) in
     let l : c.args.threshold ≤ length c.recover.new.message = omega arith in
     none_near g.F.Field.numbers c.requires.placed c.splits.ensures.written C d c.args.threshold c.args.radius t l
-    c.in-ok-distance.distance b.0 (omega arith)
+    c.in_ok-distance.distance b.0 (omega arith)

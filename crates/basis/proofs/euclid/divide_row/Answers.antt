@@ -9,10 +9,10 @@ loop-k-preserved g c =
     let F = g.F.Field.numbers in
     let L : Row = row c.args.la.now c.args.lb.now in
     let P : Row = row c.loop-k.a c.loop-k.b in (
-      subst (Fits F.q (length c.args.a.now)) (sym (ap₂ row c.take-multiple.ensures c.take-multiple-in-loop-k.ensures))
+      subst (Fits F.q (length c.args.a.now)) (sym (ap₂ row c.take_multiple.ensures c.take_multiple-in-loop-k.ensures))
           (less_fits F c.mul-c.result (c.loop-k.k - 1) L P c.loop-k.invariant.0),
-      divide_turn F c.args.m c.loop-k.k c.mul-c.result c.inv-inverse.result L P _ c.take-multiple.new.p c.take-multiple-in-loop-k.new.p
-          (omega arith) c.inv-inverse.ensures c.mul-c.ensures c.take-multiple.ensures c.take-multiple-in-loop-k.ensures c.loop-k.invariant.1,
+      divide_turn F c.args.m c.loop-k.k c.mul-c.result c.inv-inverse.result L P _ c.take_multiple.new.p c.take_multiple-in-loop-k.new.p
+          (omega arith) c.inv-inverse.ensures c.mul-c.ensures c.take_multiple.ensures c.take_multiple-in-loop-k.ensures c.loop-k.invariant.1,
     )
 
 pub returns : goal.returns

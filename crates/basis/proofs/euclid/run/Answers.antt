@@ -20,10 +20,10 @@ step-requires g c =
       first = subst (λ (n : ℕ). Fits F.q n (row c.loop-stop.pa c.loop-stop.pb)) same r.before_fits;
       second = subst (λ (n : ℕ). Fits F.q n L) same r.last_fits;
       some = on_some (size L.a) (limit c.args.stop (size L.b - 1))
-          (tested (limit c.args.stop) L c.size.result c.size-in-loop-stop.result c.goes-on.result
+          (tested (limit c.args.stop) L c.size.result c.size-in-loop-stop.result c.goes_on.result
           (size_by F L.a c.size.result r.last_fits.a_below c.size.ensures.is)
           (size_by F L.b c.size-in-loop-stop.result r.last_fits.b_below c.size-in-loop-stop.ensures.is)
-          c.goes-on.ensures c.loop-stop-test.true);
+          c.goes_on.ensures c.loop-stop-test.true);
     }
 
 pub loop-stop-smaller : goal.loop-stop-smaller
@@ -35,10 +35,10 @@ loop-stop-smaller g c =
     subst (λ (N : Row). size N.a < size c.loop-stop.la) (sym c.step.ensures.last)
     (next_falls F P L r.before_fits r.last_fits
     (on_some (size L.a) (limit c.args.stop (size L.b - 1))
-    (tested (limit c.args.stop) L c.size.result c.size-in-loop-stop.result c.goes-on.result
+    (tested (limit c.args.stop) L c.size.result c.size-in-loop-stop.result c.goes_on.result
     (size_by F L.a c.size.result r.last_fits.a_below c.size.ensures.is)
     (size_by F L.b c.size-in-loop-stop.result r.last_fits.b_below c.size-in-loop-stop.ensures.is)
-    c.goes-on.ensures c.loop-stop-test.true)))
+    c.goes_on.ensures c.loop-stop-test.true)))
 
 pub loop-stop-preserved : goal.loop-stop-preserved
 loop-stop-preserved g c =
@@ -46,10 +46,10 @@ loop-stop-preserved g c =
     let L : Row = row c.loop-stop.la c.loop-stop.lb in
     let P : Row = row c.loop-stop.pa c.loop-stop.pb in
     let r = c.loop-stop.invariant in
-    let on = tested (limit c.args.stop) L c.size.result c.size-in-loop-stop.result c.goes-on.result
+    let on = tested (limit c.args.stop) L c.size.result c.size-in-loop-stop.result c.goes_on.result
     (size_by F L.a c.size.result r.last_fits.a_below c.size.ensures.is)
     (size_by F L.b c.size-in-loop-stop.result r.last_fits.b_below c.size-in-loop-stop.ensures.is)
-    c.goes-on.ensures c.loop-stop-test.true in
+    c.goes_on.ensures c.loop-stop-test.true in
     ran_more F (limit c.args.stop) r on c.step.ensures.before c.step.ensures.last
     (next_falls F P L r.before_fits r.last_fits (on_some (size L.a) (limit c.args.stop (size L.b - 1)) on))
 
@@ -59,7 +59,7 @@ returns g c =
     let L : Row = row c.loop-stop.la c.loop-stop.lb in
     let r = c.loop-stop.invariant in
     ran_all F (limit c.args.stop) r
-    (tested (limit c.args.stop) L c.size.result c.size-in-loop-stop.result c.goes-on.result
+    (tested (limit c.args.stop) L c.size.result c.size-in-loop-stop.result c.goes_on.result
     (size_by F L.a c.size.result r.last_fits.a_below c.size.ensures.is)
     (size_by F L.b c.size-in-loop-stop.result r.last_fits.b_below c.size-in-loop-stop.ensures.is)
-    c.goes-on.ensures c.loop-stop-test.false)
+    c.goes_on.ensures c.loop-stop-test.false)

@@ -5,14 +5,14 @@ use Rattle.basis.specs.Rows.{Fits}
 use Rattle.basis.proofs.Steps.{size_by}
 use Rattle.basis.proofs.euclid.step.Goals as goal
 
-pub overflow-sub-m : goal.overflow-sub-m
-overflow-sub-m g c =
+pub overflow_sub-m : goal.overflow_sub-m
+overflow_sub-m g c =
     let e = size_by g.F.Field.numbers c.args.la.now c.size-m.result c.requires.second.a_below c.size-m.ensures.is in
     let s : 0 < size c.args.la.now = c.requires.some in
     omega arith
 
-pub divide-row-requires : goal.divide-row-requires
-divide-row-requires g c =
+pub divide_row-requires : goal.divide_row-requires
+divide_row-requires g c =
     let F = g.F.Field.numbers in
     let long : length c.args.la.now ≡ length c.args.pa.now = sym c.requires.first.a_length in
     record {
@@ -33,10 +33,10 @@ returns g c =
     let p-is : c.size.result ≡ size c.args.pa.now =
     size_by F c.args.pa.now c.size.result c.requires.first.a_below c.size.ensures.is in
     record {
-      before = ap₂ row c.swap-with-slice.ensures.after c.swap-with-slice-2.ensures.after;
+      before = ap₂ row c.swap_with_slice.ensures.after c.swap_with_slice-2.ensures.after;
       last =
-          ap₂ row c.swap-with-slice.ensures.other_After c.swap-with-slice-2.ensures.other_After
-          ∙ c.divide-row.ensures
-          ∙ ap (λ (t : ℕ). divide F (c.size-m.result - 1) L t P) c.saturating-sub-turns.ensures
+          ap₂ row c.swap_with_slice.ensures.other_after c.swap_with_slice-2.ensures.other_after
+          ∙ c.divide_row.ensures
+          ∙ ap (λ (t : ℕ). divide F (c.size-m.result - 1) L t P) c.saturating_sub-turns.ensures
           ∙ ap₂ (λ (x y : ℕ). divide F (x - 1) L (y - (x - 1)) P) m-is p-is;
     }

@@ -3,8 +3,8 @@ use Rattle.std.proofs.lemmas.List.{length-take-le}
 use Rattle.basis.proofs.Steps.{take_below, taken}
 use Rattle.basis.proofs.euclid.take_multiple.Goals as goal
 
-pub add-shifted-multiple-requires : goal.add-shifted-multiple-requires
-add-shifted-multiple-requires g c =
+pub add_shifted_multiple-requires : goal.add_shifted_multiple-requires
+add_shifted_multiple-requires g c =
     let F = g.F.Field.numbers in
     let p = c.args.p.now in
     let d = c.args.g.now in
@@ -21,5 +21,5 @@ returns g c =
     let F = g.F.Field.numbers in
     let p = c.args.p.now in
     let d = c.args.g.now in
-    taken F c.args.c c.args.k c.neg.result d p c.add-shifted-multiple.new.a c.requires.second c.requires.first
-    (take_below F (length p - c.args.k) d c.requires.second) c.requires.room (omega arith) c.neg.ensures c.add-shifted-multiple.ensures
+    taken F c.args.c c.args.k c.neg.result d p c.add_shifted_multiple.new.a c.requires.second c.requires.first
+    (take_below F (length p - c.args.k) d c.requires.second) c.requires.room (omega arith) c.neg.ensures c.add_shifted_multiple.ensures

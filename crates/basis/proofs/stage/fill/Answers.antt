@@ -18,8 +18,8 @@ rows-requires g c =
       lengths = subst (λ (n : ℕ). Room n c.args.h10.now c.args.h11.now c.args.h20.now c.args.h21.now) same c.requires.lengths;
     }
 
-pub first-weight-requires : goal.first-weight-requires
-first-weight-requires g c =
+pub first_weight-requires : goal.first_weight-requires
+first_weight-requires g c =
     let F = g.F.Field.numbers in
     let same : length c.args.s.now ≡ length c.syndrome.new.out = omega arith in
     let stops = written_stops F c.args.points.now c.args.multipliers.now c.args.shares.now c.requires.points c.requires.multipliers c.requires.shares
@@ -30,8 +30,8 @@ first-weight-requires g c =
       short = let e = c.requires.lengths.pa_length in let h = c.requires.short in omega arith;
     }
 
-pub second-weight-requires : goal.second-weight-requires
-second-weight-requires g c =
+pub second_weight-requires : goal.second_weight-requires
+second_weight-requires g c =
     let F = g.F.Field.numbers in
     let same : length c.args.s.now ≡ length c.syndrome.new.out = omega arith in
     let stops = written_stops F c.args.points.now c.args.multipliers.now c.args.shares.now c.requires.points c.requires.multipliers c.requires.shares

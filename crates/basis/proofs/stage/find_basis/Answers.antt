@@ -6,28 +6,21 @@ use Rattle.basis.proofs.Found.{found}
 use Rattle.basis.proofs.Laid.{still_full}
 use Rattle.basis.proofs.stage.find_basis.Goals as goal
 
-pub invariant-of-result : goal.invariant-of-result
-invariant-of-result g c =
+pub invariant_of-result : goal.invariant_of-result
+invariant_of-result g c =
     let d : ℕ = length c.args.points.now - c.args.threshold + 1 in
     let fits : d ≤ 32 = let a = c.requires.some in let b = c.requires.short in omega arith in
     let zeros : List ℕ = replicate 32 0 in
     let cut : length (take d zeros) ≡ d = length-take-le d zeros fits in
-    let t = c.fill-w1 in (
-      fits,
-      (
-        still_full d t.new.s zeros (omega arith) fits,
-        (
-          still_full d t.new.h10 zeros (omega arith) fits,
-          (
-            still_full d t.new.h11 zeros (omega arith) fits,
-            (
-              still_full d t.new.h20 zeros (omega arith) fits,
-              (still_full d t.new.h21 zeros (omega arith) fits, tt),
-            ),
-          ),
-        ),
-      ),
-    )
+    let t = c.fill-w1 in
+    record {
+      width = fits;
+      s_length = still_full d t.new.s zeros (omega arith) fits;
+      h10_length = still_full d t.new.h10 zeros (omega arith) fits;
+      h11_length = still_full d t.new.h11 zeros (omega arith) fits;
+      h20_length = still_full d t.new.h20 zeros (omega arith) fits;
+      h21_length = still_full d t.new.h21 zeros (omega arith) fits;
+    }
 
 pub returns : goal.returns
 returns g c =

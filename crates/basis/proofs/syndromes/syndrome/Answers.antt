@@ -15,9 +15,9 @@ pub loop-j-preserved : goal.loop-j-preserved
 loop-j-preserved g c =
     let F = g.F.Field.numbers in
     sums_more F c.args.points.now c.args.multipliers.now (length c.fill.new.self - 1) c.args.shares.now
-    c.loop-j.j c.mul-t.result (get_or c.args.points.now c.loop-j.j 0) (length c.fill.new.self - 1) c.loop-j.out c.add-powers.new.sums
+    c.loop-j.j c.mul-t.result (get_or c.args.points.now c.loop-j.j 0) (length c.fill.new.self - 1) c.loop-j.out c.add_powers.new.sums
     c.loop-j.invariant refl
-    (c.mul-t.ensures ∙ ap (F.mul (get_or c.args.shares.now c.loop-j.j 0)) c.dual.ensures) refl c.add-powers.ensures
+    (c.mul-t.ensures ∙ ap (F.mul (get_or c.args.shares.now c.loop-j.j 0)) c.dual.ensures) refl c.add_powers.ensures
 
 pub returns : goal.returns
 returns g c =

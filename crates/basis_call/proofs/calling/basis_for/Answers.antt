@@ -3,8 +3,8 @@ use Rattle.fields.specs.Numbers.{AllBelow}
 use Rattle.basis_call.proofs.Codes.{below_by, count_by, points_room, multipliers_room}
 use Rattle.basis_call.proofs.calling.basis_for.Goals as goal
 
-pub find-basis-requires : goal.find-basis-requires
-find-basis-requires g c =
+pub find_basis-requires : goal.find_basis-requires
+find_basis-requires g c =
     let q = g.F.Field.numbers.q in
     let code = c.args.opened.now.code in
     let n = code.count in

@@ -5,23 +5,23 @@ use Rattle.candidates.specs.Sifting.{locator}
 use Rattle.candidates.proofs.Telling.{passed_only, none_only, short_distance}
 use Rattle.candidates.proofs.sifting.sift_pair.Goals as goal
 
-pub returns-in-err-distance : goal.returns-in-err-distance
-returns-in-err-distance g c C d =
+pub returns-in_err-distance : goal.returns-in_err-distance
+returns-in_err-distance g c C d =
     let F = g.F.Field.numbers in
     let w = locator F c.args.rows.h1.now c.args.rows.h2.now c.args.pair.now in
     let r = poly F c.args.received.shares.now in
-    subst (Only (Passing F C c.args.threshold r c.args.radius w)) (sym c.from-residual.ensures)
-    (none_only F C c.args.threshold r (omega (arith, d.places)) c.args.radius w (c.in-err-distance.ensures.sifted C d).0)
+    subst (Only (Passing F C c.args.threshold r c.args.radius w)) (sym c.from_residual.ensures)
+    (none_only F C c.args.threshold r (omega (arith, d.places)) c.args.radius w (c.in_err-distance.ensures.sifted C d).0)
 
-pub overflow-cast-found : goal.overflow-cast-found
-overflow-cast-found g c =
+pub overflow_cast-found : goal.overflow_cast-found
+overflow_cast-found g c =
     let (C, d) = c.sift.ensures.code in
-    omega (arith, short_distance g.F.Field.numbers C d (c.in-ok-distance.ensures.sifted C d))
+    omega (arith, short_distance g.F.Field.numbers C d (c.in_ok-distance.ensures.sifted C d))
 
 pub returns : goal.returns
 returns g c C d =
     let F = g.F.Field.numbers in
     passed_only F C c.args.threshold (poly F c.args.received.shares.now) (omega (arith, d.places)) c.args.radius
     (locator F c.args.rows.h1.now c.args.rows.h2.now c.args.pair.now)
-    (record { distance = c.in-ok-distance.distance; message = c.sift.new.message; word = c.sift.new.word })
-    (omega arith) (omega arith) (c.in-ok-distance.ensures.sifted C d)
+    (record { distance = c.in_ok-distance.distance; message = c.sift.new.message; word = c.sift.new.word })
+    (omega arith) (omega arith) (c.in_ok-distance.ensures.sifted C d)

@@ -10,8 +10,8 @@ returns g c =
     record {
       fault =
           accepted F.q c.count.result code.count code.threshold c.threshold.result (length c.args.out.now) message c.count.ensures
-          c.threshold.ensures c.in-ok-check-message.ensures (omega arith);
+          c.threshold.ensures c.in_ok-check_message.ensures (omega arith);
       area =
-          placed F c.points.result.now _ c.multipliers.result.now _ message c.args.out.now c.write-codeword.new.out c.points.ensures
-          c.multipliers.ensures c.write-codeword.ensures;
+          placed F c.points.result.now _ c.multipliers.result.now _ message c.args.out.now c.write_codeword.new.out c.points.ensures
+          c.multipliers.ensures c.write_codeword.ensures;
     }

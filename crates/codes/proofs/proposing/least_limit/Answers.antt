@@ -4,31 +4,31 @@ use Rattle.codes.proofs.Firsts.{left_more, left_found, left_all}
 use Rattle.codes.proofs.Proposals.{taken, passed}
 use Rattle.codes.proofs.proposing.least_limit.Goals as goal
 
-pub loop-list-limit-init : goal.loop-list-limit-init
+pub loop-list_limit-init : goal.loop-list_limit-init
 unfolding least_limit
-loop-list-limit-init c = refl
+loop-list_limit-init c = refl
 
-pub returns-then-is-accepted : goal.returns-then-is-accepted
+pub returns-then-is_accepted : goal.returns-then-is_accepted
 unfolding least_limit
-returns-then-is-accepted c =
+returns-then-is_accepted c =
     sym
-    (left_found (accepted_setting c.args.n c.args.k c.args.radius c.args.multiplicity) 1 8 9 c.loop-list-limit.list-limit
-    (setting c.args.radius c.args.multiplicity c.loop-list-limit.list-limit) (omega arith)
-    (taken c.args.n c.args.k c.args.radius c.args.multiplicity c.loop-list-limit.list-limit
-    (sym c.is-accepted.ensures.computed ∙ c.if-is-accepted.true))
-    c.loop-list-limit.invariant)
+    (left_found (accepted_setting c.args.n c.args.k c.args.radius c.args.multiplicity) 1 8 9 c.loop-list_limit.list_limit
+    (setting c.args.radius c.args.multiplicity c.loop-list_limit.list_limit) (omega arith)
+    (taken c.args.n c.args.k c.args.radius c.args.multiplicity c.loop-list_limit.list_limit
+    (sym c.is_accepted.ensures.computed ∙ c.if-is_accepted.true))
+    c.loop-list_limit.invariant)
 
-pub loop-list-limit-preserved : goal.loop-list-limit-preserved
+pub loop-list_limit-preserved : goal.loop-list_limit-preserved
 unfolding least_limit
-loop-list-limit-preserved c =
-    left_more (accepted_setting c.args.n c.args.k c.args.radius c.args.multiplicity) 1 8 9 c.loop-list-limit.list-limit (omega arith)
-    (passed c.args.n c.args.k c.args.radius c.args.multiplicity c.loop-list-limit.list-limit
-    (sym c.is-accepted.ensures.computed ∙ c.if-is-accepted.false))
-    c.loop-list-limit.invariant
+loop-list_limit-preserved c =
+    left_more (accepted_setting c.args.n c.args.k c.args.radius c.args.multiplicity) 1 8 9 c.loop-list_limit.list_limit (omega arith)
+    (passed c.args.n c.args.k c.args.radius c.args.multiplicity c.loop-list_limit.list_limit
+    (sym c.is_accepted.ensures.computed ∙ c.if-is_accepted.false))
+    c.loop-list_limit.invariant
 
 pub returns : goal.returns
 unfolding least_limit
 returns c =
     sym
-    (left_all (accepted_setting c.args.n c.args.k c.args.radius c.args.multiplicity) 1 8 9 c.loop-list-limit.list-limit (omega arith)
-    c.loop-list-limit.invariant)
+    (left_all (accepted_setting c.args.n c.args.k c.args.radius c.args.multiplicity) 1 8 9 c.loop-list_limit.list_limit (omega arith)
+    c.loop-list_limit.invariant)

@@ -7,18 +7,18 @@ pub loop-multiplicity-init : goal.loop-multiplicity-init
 unfolding least_setting
 loop-multiplicity-init c = refl
 
-pub returns-then-is-some : goal.returns-then-is-some
+pub returns-then-is_some : goal.returns-then-is_some
 unfolding least_setting
-returns-then-is-some c =
+returns-then-is_some c =
     sym
-    (left_some (least_limit c.args.n c.args.k c.args.radius) 1 8 9 c.loop-multiplicity.multiplicity c.least-limit-found.result (omega arith)
-    (sym c.least-limit-found.ensures) (sym c.is-some.ensures ∙ c.if-is-some.true) c.loop-multiplicity.invariant)
+    (left_some (least_limit c.args.n c.args.k c.args.radius) 1 8 9 c.loop-multiplicity.multiplicity c.least_limit-found.result (omega arith)
+    (sym c.least_limit-found.ensures) (sym c.is_some.ensures ∙ c.if-is_some.true) c.loop-multiplicity.invariant)
 
 pub loop-multiplicity-preserved : goal.loop-multiplicity-preserved
 unfolding least_setting
 loop-multiplicity-preserved c =
     left_more (least_limit c.args.n c.args.k c.args.radius) 1 8 9 c.loop-multiplicity.multiplicity (omega arith)
-    (sym c.least-limit-found.ensures ∙ none_of _ (sym c.is-some.ensures ∙ c.if-is-some.false)) c.loop-multiplicity.invariant
+    (sym c.least_limit-found.ensures ∙ none_of _ (sym c.is_some.ensures ∙ c.if-is_some.false)) c.loop-multiplicity.invariant
 
 pub returns : goal.returns
 unfolding least_setting

@@ -10,9 +10,9 @@ returns c =
     let n = c.args.n in
     let k = c.args.k in
     let τ = c.args.radius in
-    let found = c.least-setting.result in
+    let found = c.least_setting.result in
     record {
-      is = c.ok-or.ensures.value ∙ proposed n k τ found (omega arith) (omega arith) (omega arith) (omega arith) c.least-setting.ensures;
+      is = c.ok_or.ensures.value ∙ proposed n k τ found (omega arith) (omega arith) (omega arith) (omega arith) c.least_setting.ensures;
       means =
-          subst (λ (r : Result Setting CodeFault). Proposed n k τ r) (sym c.ok-or.ensures.value) (meaning n k τ found c.least-setting.ensures);
+          subst (λ (r : Result Setting CodeFault). Proposed n k τ r) (sym c.ok_or.ensures.value) (meaning n k τ found c.least_setting.ensures);
     }

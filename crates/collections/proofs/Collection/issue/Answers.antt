@@ -7,9 +7,9 @@ use Rattle.collections.proofs.Collection.issue.Goals as goal
 pub returns : goal.returns
 returns g c =
     let k = c.args.self.now.kept in
-    let o = c.in-ok-opened.opened.now in
+    let o = c.in_ok-opened.opened.now in
     let m = c.args.message.now in
-    let e = c.in-ok-opened.ensures in
+    let e = c.in_ok-opened.ensures in
     record {
       fault = c.issue.ensures.fault ∙ fault_open g.F.Field.numbers.q k o m (length c.args.out.now) e;
       area =

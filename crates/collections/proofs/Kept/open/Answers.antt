@@ -10,9 +10,9 @@ use Rattle.collections.proofs.Kept.open.Goals as goal
 
 pub returns : goal.returns
 returns c =
-    let checked = c.in-ok-code.ensures in
-    let o : Opened = record { code = c.in-ok-code.code; setting = c.args.o.setting } in
+    let checked = c.in_ok-code.ensures in
+    let o : Opened = record { code = c.in_ok-code.code; setting = c.args.o.setting } in
     let g = given c.args.o in
     let right : Right c.args.q (standing c.args.self.now) (opening g) done (page (Open o) c.new.result.at) =
-    opens c.args.q (standing c.args.self.now) g o c.new.result.at c.in-ok-still-blank.ensures checked.fault checked.code refl c.new.ensures in
+    opens c.args.q (standing c.args.self.now) g o c.new.result.at c.in_ok-still_blank.ensures checked.fault checked.code refl c.new.ensures in
     record { right = right; same = tt; sound = λ h. ((checked.code.field, c.ranges.q.fits), fair_kept c.args.q _ (opening g) done _ right h.1) }

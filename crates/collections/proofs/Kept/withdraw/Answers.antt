@@ -9,5 +9,5 @@ returns-in-Filled c q =
     let s = c.args.self.now.state in
     let act = withdrawing c.args.place in
     let right : Right q (standing c.args.self.now) act done (page s c.put.new.self.at) =
-    withdraws q s c.args.self.now.places.at c.put.new.self.at c.args.place c.in-ok-read.field-0 c.in-Filled.field-0 c.in-ok-read.ensures c.in-Filled.is c.put.ensures in
+    withdraws q s c.args.self.now.places.at c.put.new.self.at c.args.place c.in_ok-read.field-0 c.in-Filled.field-0 c.in_ok-read.ensures c.in-Filled.is c.put.ensures in
     record { right = right; same = tt; sound = λ h. (h.0, fair_kept q _ act done _ right h.1) }

@@ -8,10 +8,10 @@ use Rattle.console.proofs.listing.list_over.Goals as goal
 pub report-requires : goal.report-requires
 report-requires g c =
     (told g.F.Field.numbers g.F.Field.tag (length c.args.work.now) c.args.header.threshold c.args.header.places c.args.bytes
-    (standing c.run-blank.result.kept) c.run-blank.new.answers Done c.run-blank.auto.answers c.run-blank.ensures.law.runs).listed
+    (standing c.run_blank.result.kept) c.run_blank.new.answers Done c.run_blank.auto.answers c.run_blank.ensures.law.runs).listed
 
 pub returns : goal.returns
 returns g c =
     printed (report_text c.report.result) c.report.ensures
     (told g.F.Field.numbers g.F.Field.tag (length c.args.work.now) c.args.header.threshold c.args.header.places c.args.bytes
-    (standing c.run-blank.result.kept) c.run-blank.new.answers Done c.run-blank.auto.answers c.run-blank.ensures.law.runs)
+    (standing c.run_blank.result.kept) c.run_blank.new.answers Done c.run_blank.auto.answers c.run_blank.ensures.law.runs)

@@ -5,9 +5,9 @@ use Rattle.console.specs.Lines.{report_text}
 use Rattle.console.specs.Output.{PrintsHeaded, PrintsBy}
 use Rattle.console.proofs.listing.list_sheet.Goals as goal
 
-pub returns-in-ok-work : goal.returns-in-ok-work
-returns-in-ok-work c =
-    let text = report_text c.list-headed.result in
-    let room : length c.deref-mut.result.now ≡ 32000 = c.deref-mut.ensures.len ∙ c.in-ok-work.ensures.len in
+pub returns-in_ok-work : goal.returns-in_ok-work
+returns-in_ok-work c =
+    let text = report_text c.list_headed.result in
+    let room : length c.deref-mut.result.now ≡ 32000 = c.deref-mut.ensures.len ∙ c.in_ok-work.ensures.len in
     subst (λ (h : Result Header SheetFault). PrintsBy h c.args.bytes.now text) c.in-Ok.ensures
-    (subst (λ (w : ℕ). PrintsHeaded c.in-Ok.header w c.args.bytes.now text) (ap (min 32000) room) c.list-headed.ensures)
+    (subst (λ (w : ℕ). PrintsHeaded c.in-Ok.header w c.args.bytes.now text) (ap (min 32000) room) c.list_headed.ensures)

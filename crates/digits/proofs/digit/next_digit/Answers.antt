@@ -8,10 +8,10 @@ pub returns : goal.returns
 returns g c =
     let F = g.F.Field.numbers in
     let n = c.args.shape.degree + 1 - 0 in
-    let out = c.digit-polynomial.new.out in
-    let long : length out ≡ n = c.digit-polynomial.auto.out ∙ length-take-le n (zeros F 9) (omega arith) in
+    let out = c.digit_polynomial.new.out in
+    let long : length out ≡ n = c.digit_polynomial.auto.out ∙ length-take-le n (zeros F 9) (omega arith) in
     record {
       long = lent_length F n 9 out long (omega arith);
-      all = lent_all F n 9 out long c.digit-polynomial.ensures.all;
-      decides = lent_decides F c.args.shape.degree c.args.t (runs F c.args.shape.width c.args.runs.now) n 9 out long (omega arith) (omega arith) c.digit-polynomial.ensures.decides;
+      all = lent_all F n 9 out long c.digit_polynomial.ensures.all;
+      decides = lent_decides F c.args.shape.degree c.args.t (runs F c.args.shape.width c.args.runs.now) n 9 out long (omega arith) (omega arith) c.digit_polynomial.ensures.decides;
     }

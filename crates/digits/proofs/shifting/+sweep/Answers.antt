@@ -32,8 +32,8 @@ sweep-requires g t c κs within =
     let same : c.rest-rest.result.depth ≡ s.depth = ap (λ (z : Shape). z.depth) e in
     (omega (arith, less, c.decreases), (within, (c.requires.digit, (omega (arith, same, c.requires.place), held))))
 
-pub add-next-requires : goal.add-next-requires
-add-next-requires g t c =
+pub add_next-requires : goal.add_next-requires
+add_next-requires g t c =
     let F = g.F.Field.numbers in
     let s = c.args.shape in
     let some : 0 < s.degree = omega arith in
@@ -49,8 +49,8 @@ returns g t c =
     let F = g.F.Field.numbers in
     let s = c.args.shape in
     let some : 0 < s.degree = omega arith in
-    let is = swept_is F s c.rest-rest.result c.args.e c.args.t c.args.runs.now c.sweep.new.runs c.rest-rest.ensures some c.requires.place c.requires.held c.sweep.ensures.held c.add-next.new.runs c.add-next.ensures.first c.add-next.ensures.rest c.add-next.auto.runs (subst (λ (l : List ℕ). runs F c.rest-rest.result.width c.sweep.new.runs ≡ sweep (Poly (ring_of F)) (term (ring_of F) (elem F c.args.e) c.args.t) c.rest-rest.result.degree (runs F c.rest-rest.result.width l)) (part_rest F s.width c.args.runs.now) c.sweep.ensures.is) in
+    let is = swept_is F s c.rest-rest.result c.args.e c.args.t c.args.runs.now c.sweep.new.runs c.rest-rest.ensures some c.requires.place c.requires.held c.sweep.ensures.held c.add_next.new.runs c.add_next.ensures.first c.add_next.ensures.rest c.add_next.auto.runs (subst (λ (l : List ℕ). runs F c.rest-rest.result.width c.sweep.new.runs ≡ sweep (Poly (ring_of F)) (term (ring_of F) (elem F c.args.e) c.args.t) c.rest-rest.result.degree (runs F c.rest-rest.result.width l)) (part_rest F s.width c.args.runs.now) c.sweep.ensures.is) in
     record {
-      held = swept_held F s c.rest-rest.result c.args.e c.args.t c.args.runs.now c.sweep.new.runs c.rest-rest.ensures some c.requires.place c.requires.held c.sweep.ensures.held c.add-next.new.runs c.add-next.ensures.first c.add-next.ensures.rest c.add-next.auto.runs is;
+      held = swept_held F s c.rest-rest.result c.args.e c.args.t c.args.runs.now c.sweep.new.runs c.rest-rest.ensures some c.requires.place c.requires.held c.sweep.ensures.held c.add_next.new.runs c.add_next.ensures.first c.add_next.ensures.rest c.add_next.auto.runs is;
       is = is;
     }

@@ -24,21 +24,21 @@ returns-then-t-digits g t c =
 pub loop-e-init : goal.loop-e-init
 loop-e-init g t c =
     let F = g.F.Field.numbers in
-    let p = c.next-digit-polynomial.result in
+    let p = c.next_digit-polynomial.result in
     let decides : Decides (ring_of F) c.args.shape.degree c.args.t (runs F c.args.shape.width c.args.runs.now) (length p) (poly F p) =
-    subst (λ (n : ℕ). Decides (ring_of F) c.args.shape.degree c.args.t (runs F c.args.shape.width c.args.runs.now) n (poly F p)) (sym c.next-digit-polynomial.ensures.long) c.next-digit-polynomial.ensures.decides in (
+    subst (λ (n : ℕ). Decides (ring_of F) c.args.shape.degree c.args.t (runs F c.args.shape.width c.args.runs.now) n (poly F p)) (sym c.next_digit-polynomial.ensures.long) c.next_digit-polynomial.ensures.decides in (
       c.requires.held,
       refl,
       refl,
       c.requires.all,
       c.requires.takes,
-      at_start F c.args.shape.degree (length c.args.digits.now) c.args.t (take c.args.t c.args.digits.now) (runs F c.args.shape.width c.args.runs.now) (length p) (poly F p) decides (omega arith) g.L.Leaf.visits c.root-span-span.result.from c.root-span-span.result.to c.args.leaf.now c.root-span-span.ensures,
+      at_start F c.args.shape.degree (length c.args.digits.now) c.args.t (take c.args.t c.args.digits.now) (runs F c.args.shape.width c.args.runs.now) (length p) (poly F p) decides (omega arith) g.L.Leaf.visits c.root_span-span.result.from c.root_span-span.result.to c.args.leaf.now c.root_span-span.ensures,
     )
 
 pub walk-requires : goal.walk-requires
 walk-requires g t c κs within =
     let F = g.F.Field.numbers in
-    let q : c.loop-e.e < F.q = omega (arith, c.loop-e-test.true, c.root-span-span.ensures.within) in
+    let q : c.loop-e.e < F.q = omega (arith, c.loop-e-test.true, c.root_span-span.ensures.within) in
     let long : length (set c.loop-e.digits c.args.t c.loop-e.e) ≡ length c.args.digits.now = length-set c.loop-e.digits c.args.t c.loop-e.e ∙ c.loop-e.auto.digits in
     let ne : c.args.t ≢ length c.args.digits.now = c.if-t-digits.false in (
       omega (arith, long, c.decreases, c.requires.place, ne),
@@ -67,10 +67,10 @@ pub loop-e-preserved : goal.loop-e-preserved
 loop-e-preserved g t c =
     let F = g.F.Field.numbers in
     let s = c.args.shape in
-    let p = c.next-digit-polynomial.result in
+    let p = c.next_digit-polynomial.result in
     let decides : Decides (ring_of F) s.degree c.args.t (runs F s.width c.args.runs.now) (length p) (poly F p) =
-    subst (λ (n : ℕ). Decides (ring_of F) s.degree c.args.t (runs F s.width c.args.runs.now) n (poly F p)) (sym c.next-digit-polynomial.ensures.long) c.next-digit-polynomial.ensures.decides in
-    let q : c.loop-e.e < F.q = omega (arith, c.loop-e-test.true, c.root-span-span.ensures.within) in
+    subst (λ (n : ℕ). Decides (ring_of F) s.degree c.args.t (runs F s.width c.args.runs.now) n (poly F p)) (sym c.next_digit-polynomial.ensures.long) c.next_digit-polynomial.ensures.decides in
+    let q : c.loop-e.e < F.q = omega (arith, c.loop-e-test.true, c.root_span-span.ensures.within) in
     let inside : c.args.t < length c.args.digits.now = omega (arith, c.requires.place, c.if-t-digits.false) in
     elim c.if-evaluate-eq0.branch [
       | then-evaluate-eq0 w ↦
@@ -98,9 +98,9 @@ loop-e-preserved g t c =
 pub returns : goal.returns
 returns g t c =
     let F = g.F.Field.numbers in
-    let p = c.next-digit-polynomial.result in
+    let p = c.next_digit-polynomial.result in
     let decides : Decides (ring_of F) c.args.shape.degree c.args.t (runs F c.args.shape.width c.args.runs.now) (length p) (poly F p) =
-    subst (λ (n : ℕ). Decides (ring_of F) c.args.shape.degree c.args.t (runs F c.args.shape.width c.args.runs.now) n (poly F p)) (sym c.next-digit-polynomial.ensures.long) c.next-digit-polynomial.ensures.decides in
+    subst (λ (n : ℕ). Decides (ring_of F) c.args.shape.degree c.args.t (runs F c.args.shape.width c.args.runs.now) n (poly F p)) (sym c.next_digit-polynomial.ensures.long) c.next_digit-polynomial.ensures.decides in
     let inside : c.args.t < length c.args.digits.now = omega (arith, c.requires.place, c.if-t-digits.false) in
     record {
       held = c.loop-e.invariant.0;
@@ -108,5 +108,5 @@ returns g t c =
       front = c.loop-e.invariant.2;
       all = c.loop-e.invariant.3;
       takes = c.loop-e.invariant.4;
-      walked = at_end F c.args.shape.degree (length c.args.digits.now) c.args.t (take c.args.t c.args.digits.now) (runs F c.args.shape.width c.args.runs.now) (length p) (poly F p) decides inside g.L.Leaf.visits c.root-span-span.result.from c.root-span-span.result.to c.loop-e.e c.root-span-span.ensures (omega (arith, c.loop-e-test.false)) c.loop-e.invariant.5;
+      walked = at_end F c.args.shape.degree (length c.args.digits.now) c.args.t (take c.args.t c.args.digits.now) (runs F c.args.shape.width c.args.runs.now) (length p) (poly F p) decides inside g.L.Leaf.visits c.root_span-span.result.from c.root_span-span.result.to c.loop-e.e c.root_span-span.ensures (omega (arith, c.loop-e-test.false)) c.loop-e.invariant.5;
     }

@@ -12,11 +12,11 @@ returns g c =
     let F = g.F.Field.numbers in
     let s = meant c.args.sheet.now in
     let message = c.args.message.now in
-    let code = c.in-ok-code.code in
-    let holds : Holds F.q (given_in s) code = subst (λ (q : ℕ). Holds q (given_in s) code) c.count.ensures c.in-ok-code.ensures.code in
-    let opened : None ≡ first_fault F.q (given_in s) = c.in-ok-code.ensures.fault ∙ ap (λ (q : ℕ). first_fault q (given_in s)) c.count.ensures in
+    let code = c.in_ok-code.code in
+    let holds : Holds F.q (given_in s) code = subst (λ (q : ℕ). Holds q (given_in s) code) c.count.ensures c.in_ok-code.ensures.code in
+    let opened : None ≡ first_fault F.q (given_in s) = c.in_ok-code.ensures.fault ∙ ap (λ (q : ℕ). first_fault q (given_in s)) c.count.ensures in
     let told : None ≡ message_fault F.q s.threshold message =
-    c.in-ok-issue.ensures.fault ∙ roomy F.q code.count code.threshold message code.places.1
+    c.in_ok-issue.ensures.fault ∙ roomy F.q code.count code.threshold message code.places.1
     ∙ ap (λ (k : ℕ). message_fault F.q k message) holds.threshold in
     record {
       fault = over_none F s message opened told;
@@ -26,6 +26,6 @@ returns g c =
             code = holds;
             word =
                 ap (λ (n : ℕ). take n c.issue.new.out) (sym (length-map-range_with_len _ 0 s.count))
-                ∙ fronted F F.q (given_in s) code message _ c.issue.new.out holds c.in-ok-issue.ensures.area;
+                ∙ fronted F F.q (given_in s) code message _ c.issue.new.out holds c.in_ok-issue.ensures.area;
           };
     }

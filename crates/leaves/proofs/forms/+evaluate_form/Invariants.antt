@@ -1,4 +1,4 @@
 use Rattle.leaves.proofs.forms.+evaluate_form.Given as goal
 
-abbrev pub decreases-evaluate-form : goal.decreases-evaluate-form
-decreases-evaluate-form g l = l.degree
+abbrev pub decreases-evaluate_form : goal.decreases-evaluate_form
+decreases-evaluate_form g l = l.degree

@@ -10,4 +10,4 @@ pub returns : goal.returns
 returns g c =
     let F = g.F.Field.numbers in
     let p = c.args.p.now in
-    become c.add-multiple.ensures (plus_once F (poly F p) (poly F c.multiply-into.new.out) ∙ ap (padd (ring_of F) (poly F p)) c.multiply-into.ensures.is)
+    become c.add_multiple.ensures (plus_once F (poly F p) (poly F c.multiply_into.new.out) ∙ ap (padd (ring_of F) (poly F p)) c.multiply_into.ensures.is)

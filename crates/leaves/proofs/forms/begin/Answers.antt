@@ -5,6 +5,6 @@ pub returns : goal.returns
 returns g c =
     let F = g.F.Field.numbers in
     record {
-      sum = copied F c.copy-from-slice.ensures.after (itself F c.args.run.now c.requires.all);
-      power = one_is F c.args.power.now c.requires.power-long;
+      sum = copied F c.copy_from_slice.ensures.after (itself F c.args.run.now c.requires.all);
+      power = one_is F c.args.power.now c.requires.power_long;
     }

@@ -6,8 +6,8 @@ use Rattle.polynomials.proofs.Readings.{become}
 use Rattle.leaves.proofs.Horner.{all_part, copied}
 use Rattle.leaves.proofs.forms.multiply_by.Goals as goal
 
-pub multiply-into-requires : goal.multiply-into-requires
-multiply-into-requires g c =
+pub multiply_into-requires : goal.multiply_into-requires
+multiply_into-requires g c =
     let F = g.F.Field.numbers in
     let p = c.args.p.now in
     let a = length-take (c.args.n - 0) p in
@@ -18,5 +18,5 @@ pub returns : goal.returns
 returns g c =
     let F = g.F.Field.numbers in
     let p = c.args.p.now in
-    become (copied F c.copy-from-slice.ensures.after c.multiply-into.ensures)
+    become (copied F c.copy_from_slice.ensures.after c.multiply_into.ensures)
     (ap (λ (j : ℕ). conv (ring_of F) (poly F (take j p)) (poly F c.args.g.now)) (let e : c.args.n - 0 ≡ c.args.n = omega arith in e))

@@ -3,8 +3,8 @@ use Rattle.leaves.proofs.Horner.{put_front, front_length}
 use Rattle.leaves.proofs.Rational.{padded, small_is, first_below, candidate_is}
 use Rattle.leaves.proofs.reaching.candidate.Goals as goal
 
-pub slice-bounds-front-end : goal.slice-bounds-front-end
-slice-bounds-front-end g c = sym (front_length (length c.args.digits.now + 1) (replicate 64 0) c.reconstruct.new.f1 c.reconstruct.auto.f1)
+pub slice_bounds-front-end : goal.slice_bounds-front-end
+slice_bounds-front-end g c = sym (front_length (length c.args.digits.now + 1) (replicate 64 0) c.reconstruct.new.f1 c.reconstruct.auto.f1)
 
 pub front-first-requires : goal.front-first-requires
 front-first-requires g c =
@@ -20,8 +20,8 @@ front-first-requires g c =
       small = small_is F c.args.w1 (put_front n (replicate 64 0) c.reconstruct.new.f1) _ p (first_below F c.args.w1 c.args.w2 r.rows);
     }
 
-pub slice-bounds-front-end-2 : goal.slice-bounds-front-end-2
-slice-bounds-front-end-2 g c = sym (front_length (length c.args.digits.now + 1) (replicate 64 0) c.reconstruct.new.f2 c.reconstruct.auto.f2)
+pub slice_bounds-front-end-2 : goal.slice_bounds-front-end-2
+slice_bounds-front-end-2 g c = sym (front_length (length c.args.digits.now + 1) (replicate 64 0) c.reconstruct.new.f2 c.reconstruct.auto.f2)
 
 pub front-second-requires : goal.front-second-requires
 front-second-requires g c =

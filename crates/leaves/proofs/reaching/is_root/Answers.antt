@@ -27,7 +27,7 @@ pub returns-then-f1-ne0 : goal.returns-then-f1-ne0
 returns-then-f1-ne0 g c =
     let F = g.F.Field.numbers in
     let v = c.vanishes.ensures in
-    let e = cut_form F c.args.degree c.args.n (runs F c.args.width c.args.runs.now) c.args.f1.now c.args.f2.now c.requires.first_small c.requires.second-small in
+    let e = cut_form F c.args.degree c.args.n (runs F c.args.width c.args.runs.now) c.args.f1.now c.args.f2.now c.requires.first_small c.requires.second_small in
     (λ t. (constant_not F c.args.f1.now c.requires.first c.if-f1-ne0.true, sym e ∙ v.0 t), λ x. v.1 (e ∙ x.1))
 
 pub returns-else-f1-ne0 : goal.returns-else-f1-ne0

@@ -10,5 +10,5 @@ returns g c =
     let F = g.F.Field.numbers in
     let n : ℕ = length c.args.p.now - 0 in
     let zs = c.clear.new.a in
-    joined_zeros F c.copy-from-slice.new.self (drop n zs) (λ k. get_or-drop n zs k 0 ∙ unset_all F zs c.clear.ensures.below c.clear.ensures.is (n + k))
-    (copied F c.copy-from-slice.ensures.after (itself F c.args.p.now c.requires.all))
+    joined_zeros F c.copy_from_slice.new.self (drop n zs) (λ k. get_or-drop n zs k 0 ∙ unset_all F zs c.clear.ensures.below c.clear.ensures.is (n + k))
+    (copied F c.copy_from_slice.ensures.after (itself F c.args.p.now c.requires.all))

@@ -6,8 +6,8 @@ use Rattle.leaves.proofs.tests.a_series_gives_its_root.Goals as goal
 below_by : (q : ℕ) (xs : List ℕ) → T (all_below (λ k. ltb (get_or xs k 0) q) (length xs)) → AllBelow q xs
 below_by q xs t k h = ltb→lt (get_or xs k 0) q (at_below (λ k. ltb (get_or xs k 0) q) (length xs) t k h)
 
-pub root-at-leaf-found-requires : goal.root-at-leaf-found-requires
-root-at-leaf-found-requires c =
+pub root_at_leaf-found-requires : goal.root_at_leaf-found-requires
+root_at_leaf-found-requires c =
     record {
       digits = below_by 7 (5 ∷ 5 ∷ 1 ∷ []) tt;
       depth = refl;

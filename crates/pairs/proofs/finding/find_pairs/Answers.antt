@@ -34,12 +34,12 @@ returns-then-basis-lt0-2 g c =
     record {
       count = some;
       pairs = subst (ToSift F αs vs k rs x)
-          (sym (first_written c.args.pairs.now c.unit-pair.result (let l = c.requires.records in omega arith) ∙ ap (λ (p : Pair). p ∷ []) c.unit-pair.ensures))
+          (sym (first_written c.args.pairs.now c.unit_pair.result (let l = c.requires.records in omega arith) ∙ ap (λ (p : Pair). p ∷ []) c.unit_pair.ensures))
           (single F αs vs k rs x c.requires.given c.args.basis.now c.requires.found not neg);
     }
 
-pub interpolate-roots-requires : goal.interpolate-roots-requires
-interpolate-roots-requires g c =
+pub interpolate_roots-requires : goal.interpolate_roots-requires
+interpolate_roots-requires g c =
     let F = g.F.Field.numbers in
     let αs = c.args.received.points.now in
     let vs = c.args.received.multipliers.now in
@@ -72,8 +72,8 @@ returns g c =
     let k = c.args.threshold in
     let x = c.args.setting in
     let B = c.args.basis.now in
-    let n = c.interpolate-roots.result in
-    let area = c.interpolate-roots.new.pairs in
+    let n = c.interpolate_roots.result in
+    let area = c.interpolate_roots.new.pairs in
     let h₁ : pos 0 ≤ℤ c.args.basis.now.w1 = omega (arith, ints) in
     let h₂ : pos 0 ≤ℤ c.args.basis.now.w2 = omega (arith, ints) in
     let e₁ : to_z w16 (of_z w16 c.args.basis.now.w1) ≡ c.args.basis.now.w1 = omega (arith, ints) in
@@ -82,7 +82,7 @@ returns g c =
     let r : RootsOf F (shape_of x B.w1 B.w2) αs (h11 F αs vs k rs) (h21 F αs vs k rs) n area =
     subst (λ (h : List ℕ). RootsOf F (shape_of x B.w1 B.w2) αs (h11 F αs vs k rs) h n area) (front B.d B.h21 (h21 F αs vs k rs) c.requires.found.h21)
     (subst (λ (h : List ℕ). RootsOf F (shape_of x B.w1 B.w2) αs h (take (B.d - 0) B.h21) n area) (front B.d B.h11 (h11 F αs vs k rs) c.requires.found.h11)
-    (subst (λ (S : Shape). RootsOf F S αs (take (B.d - 0) B.h11) (take (B.d - 0) B.h21) n area) e c.interpolate-roots.ensures)) in
+    (subst (λ (S : Shape). RootsOf F S αs (take (B.d - 0) B.h11) (take (B.d - 0) B.h21) n area) e c.interpolate_roots.ensures)) in
     record {
       count = r.listed.fits;
       pairs = several F αs vs k rs x c.requires.given B c.requires.found h₁ h₂ n area r;

@@ -4,13 +4,13 @@ use Rattle.interpolant.proofs.Solves.{some_bound}
 use Rattle.pairs.proofs.Rooms.{not_all_zero}
 use Rattle.pairs.proofs.finding.interpolate_roots.Goals as goal
 
-pub list-roots-requires : goal.list-roots-requires
-list-roots-requires g c =
+pub list_roots-requires : goal.list_roots-requires
+list_roots-requires g c =
     let F = g.F.Field.numbers in
     let S = c.args.shape in
     let f = c.requires.fits in
     let r = f.roots in
-    let long : length c.interpolate-basis.new.out ≡ (c.args.shape.degree + 1) * c.args.shape.bound = omega arith in
+    let long : length c.interpolate_basis.new.out ≡ (c.args.shape.degree + 1) * c.args.shape.bound = omega arith in
     record {
       degree = f.some;
       few = f.few;
@@ -19,9 +19,9 @@ list-roots-requires g c =
       first = f.first;
       second = f.second;
       long = long;
-      all = c.interpolate-basis.ensures.solution.below;
+      all = c.interpolate_basis.ensures.solution.below;
       some = not_all_zero F (basis_problem F S c.args.points.now c.args.h11.now c.args.h21.now) (length c.args.points.now) S.multiplicity
-          c.interpolate-basis.new.out c.interpolate-basis.ensures.solution;
+          c.interpolate_basis.new.out c.interpolate_basis.ensures.solution;
       enough = c.requires.records;
       work = omega arith;
     }

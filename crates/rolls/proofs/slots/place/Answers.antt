@@ -24,10 +24,10 @@ pub returns : goal.returns
 returns g c =
     let less = g.T.Ordered.less in
     told_new less c.args.x c.args.slots.now c.args.len c.lower-i.result c.args.x c.requires (exact less c.args.x c.args.slots.now c.args.len c.lower-i.result c.lower-i.ensures.value)
-    c.open-front.new.row _
+    c.open_front.new.row _
     (within less c.args.x c.args.slots.now c.args.len c.lower-i.result c.lower-i.ensures.bound)
     (elim c.else-i-len.branch [
       | else-i-len-via-then-i-len+else-not-precedes w ↦ λ h. by_default less c.args.x c.args.slots.now c.lower-i.result w.index-slots-i.result true (omega arith) w.if-not-precedes.ensures
       | else-i-len-via-else-i-len w ↦ λ h. absurd (omega arith)
     ])
-    (omega arith) c.open-front.ensures refl
+    (omega arith) c.open_front.ensures refl

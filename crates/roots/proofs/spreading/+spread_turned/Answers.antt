@@ -28,8 +28,8 @@ returns-then-degree-eq0 g t c =
       is = turned_one F d _ (runs F n form) c.if-degree-eq0.true (first_run F w (w - 0) d c.args.out.now c.pad.new.out (omega arith) c.requires.room long _ c.pad.ensures ∙ last_run F n d form c.requires.runs);
     }
 
-pub spread-turned-requires : goal.spread-turned-requires
-spread-turned-requires g t c κs within =
+pub spread_turned-requires : goal.spread_turned-requires
+spread_turned-requires g t c κs within =
     let F = g.F.Field.numbers in
     let form = c.args.form.now in
     let n = c.args.narrow in
@@ -59,11 +59,11 @@ returns g t c =
     let d = c.args.degree in
     let some : 0 < d = omega (arith, c.if-degree-eq0.false) in
     let long = run_length F w d c.args.out.now c.pad.new.out c.requires.room c.pad.auto.out in
-    let rest : length c.spread-turned.new.out ≡ d * w = c.spread-turned.auto.out ∙ rest_size F w d _ (first_size F w d c.args.out.now c.pad.new.out c.requires.room long) in
+    let rest : length c.spread_turned.new.out ≡ d * w = c.spread_turned.auto.out ∙ rest_size F w d _ (first_size F w d c.args.out.now c.pad.new.out c.requires.room long) in
     record {
-      all = more_all F w (w - 0) d c.args.out.now c.pad.new.out (omega arith) c.requires.room long c.spread-turned.new.out rest _ c.pad.ensures c.spread-turned.ensures.all;
-      is = turned_more F d _ (runs F w c.spread-turned.new.out) (runs F n form) (runs F n (take (length form - n - 0) form))
-          (more_first F w (w - 0) d c.args.out.now c.pad.new.out (omega arith) c.requires.room long c.spread-turned.new.out rest _ c.pad.ensures ∙ last_run F n d form c.requires.runs)
-          (more_rest F w (w - 0) d c.args.out.now c.pad.new.out (omega arith) c.requires.room long c.spread-turned.new.out rest)
-          c.spread-turned.ensures.is (λ t h. front_run F n d t form c.requires.runs h) some;
+      all = more_all F w (w - 0) d c.args.out.now c.pad.new.out (omega arith) c.requires.room long c.spread_turned.new.out rest _ c.pad.ensures c.spread_turned.ensures.all;
+      is = turned_more F d _ (runs F w c.spread_turned.new.out) (runs F n form) (runs F n (take (length form - n - 0) form))
+          (more_first F w (w - 0) d c.args.out.now c.pad.new.out (omega arith) c.requires.room long c.spread_turned.new.out rest _ c.pad.ensures ∙ last_run F n d form c.requires.runs)
+          (more_rest F w (w - 0) d c.args.out.now c.pad.new.out (omega arith) c.requires.room long c.spread_turned.new.out rest)
+          c.spread_turned.ensures.is (λ t h. front_run F n d t form c.requires.runs h) some;
     }

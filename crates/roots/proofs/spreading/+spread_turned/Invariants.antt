@@ -1,4 +1,4 @@
 use Rattle.roots.proofs.spreading.+spread_turned.Given as goal
 
-abbrev pub decreases-spread-turned : goal.decreases-spread-turned
-decreases-spread-turned g l = l.degree
+abbrev pub decreases-spread_turned : goal.decreases-spread_turned
+decreases-spread_turned g l = l.degree

@@ -12,7 +12,7 @@ returns g c =
     record {
       law =
           record {
-            says = subst (λ (w : ℕ). RightList F b (listing_fault F.q b (shares b) c.args.records w) (reply c.list-own.result)) room c.list-own.ensures;
+            says = subst (λ (w : ℕ). RightList F b (listing_fault F.q b (shares b) c.args.records w) (reply c.list_own.result)) room c.list_own.ensures;
             leaves = refl;
           };
       wiped = c.drop-guard.ensures;

@@ -17,6 +17,6 @@ returns c =
       reads =
           record {
             sheet = is_sheet bs (take (length bs - 9) (drop 9 bs)) entries size;
-            short = let b = c.type-inv.bytes 4 in omega arith;
+            short = let b = c.type_inv.bytes 4 in omega arith;
           };
     }

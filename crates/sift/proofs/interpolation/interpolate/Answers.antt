@@ -18,8 +18,8 @@ factor-c-requires g c =
       apart = newton_apart g.F.Field.numbers c.loop-i.invariant c.requires.points c.requires.distinct (omega arith) (omega arith);
     }
 
-pub mul-linear-in-place-requires : goal.mul-linear-in-place-requires
-mul-linear-in-place-requires g c =
+pub mul_linear_in_place-requires : goal.mul_linear_in_place-requires
+mul_linear_in_place-requires g c =
     let l = length-set c.clear-2.new.a 0 1 in
     record {
       point = c.requires.points c.loop-i.i (omega arith);
@@ -31,8 +31,8 @@ mul-linear-in-place-requires g c =
 pub loop-i-preserved : goal.loop-i-preserved
 loop-i-preserved g c =
     let l = length-set c.clear-2.new.a 0 1 in
-    newton_turn g.F.Field.numbers c.loop-i.invariant c.factor-c.result c.add-multiple.new.a c.mul-linear-in-place.new.a
-    (omega arith) (omega arith) (omega arith) (omega arith) c.factor-c.ensures.meets c.add-multiple.ensures c.mul-linear-in-place.ensures
+    newton_turn g.F.Field.numbers c.loop-i.invariant c.factor-c.result c.add_multiple.new.a c.mul_linear_in_place.new.a
+    (omega arith) (omega arith) (omega arith) (omega arith) c.factor-c.ensures.meets c.add_multiple.ensures c.mul_linear_in_place.ensures
 
 pub returns : goal.returns
 returns g c =

@@ -10,13 +10,13 @@ use Rattle.sift.proofs.roots.locate.Goals as goal
 pub loop-i-init : goal.loop-i-init
 loop-i-init g c =
     let F = g.F.Field.numbers in
-    become c.multiply-into.ensures
+    become c.multiply_into.ensures
     (sum_none F (conv (ring_of F) (poly F c.args.f1.now) (poly F c.args.h1.now)) c.args.f2.now c.args.h2.now)
 
 pub loop-i-preserved : goal.loop-i-preserved
 loop-i-preserved g c =
     let F = g.F.Field.numbers in
-    become c.add-shifted-multiple.ensures
+    become c.add_shifted_multiple.ensures
     (sum_turn F (conv (ring_of F) (poly F c.args.f1.now) (poly F c.args.h1.now)) (poly F c.loop-i.out) c.args.f2.now c.args.h2.now
     c.loop-i.i (omega arith) c.loop-i.invariant.is)
 

@@ -8,11 +8,11 @@ use Rattle.sift.proofs.roots.splits.Goals as goal
 pub returns : goal.returns
 returns g c =
     let F = g.F.Field.numbers in
-    let v = c.values-at.ensures in
+    let v = c.values_at.ensures in
     let s = c.size.result in
     let n = c.zeros.result in
-    let e : n ≡ count (length c.args.points.now) (vanishes c.values-at.new.out) =
-    c.zeros.ensures.is ∙ ap (λ (m : ℕ). count m (vanishes c.values-at.new.out)) (let l : length c.values-at.new.out ≡ length c.args.points.now = omega arith in l) in
+    let e : n ≡ count (length c.args.points.now) (vanishes c.values_at.new.out) =
+    c.zeros.ensures.is ∙ ap (λ (m : ℕ). count m (vanishes c.values_at.new.out)) (let l : length c.values_at.new.out ≡ length c.args.points.now = omega arith in l) in
     record {
       written = v;
       yes = λ t. splits_yes F v s n c.size.ensures.is e (eqb→eq s (n + 1) t);

@@ -24,7 +24,7 @@ sift-found-requires c =
       fewer = lit≤ tt;
       low = located_short numbers7 (6 ∷ 6 ∷ []) (4 ∷ 1 ∷ 3 ∷ []) (2 ∷ []) (3 ∷ 1 ∷ []) 5 (lit≤ tt) (lit≤ tt);
       room = lit≤ tt;
-      room-too = lit≤ tt;
-      message-room = lit< tt;
+      room_too = lit≤ tt;
+      message_room = lit< tt;
       word_room = lit≤ tt;
     }

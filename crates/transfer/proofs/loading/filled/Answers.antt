@@ -9,35 +9,35 @@ use Rattle.transfer.specs.Loading.{enterings}
 use Rattle.transfer.proofs.Acts.{Done, opens_refused, opens_first}
 use Rattle.transfer.proofs.loading.filled.Goals as goal
 
-pub returns-in-err-open-by : goal.returns-in-err-open-by
-returns-in-err-open-by g c =
+pub returns-in_err-open_by : goal.returns-in_err-open_by
+returns-in_err-open_by g c =
     let q = g.F.Field.numbers.q in
     let s = meant c.args.sheet.now in
-    let p = err_from_is_err_and c.from-residual-in-err-open-by.result c.from-residual-in-err-open-by.ensures.1 in
+    let p = err_from_is_err_and c.from_residual-in_err-open_by.result c.from_residual-in_err-open_by.ensures.1 in
     let n = standing c.new-new.result.kept in
-    let e = standing c.open-by.new.c.kept in
-    let right = subst (λ r. Right q n (opening (given_in s)) (said r) e) c.in-err-open-by.was c.open-by.ensures.right in
+    let e = standing c.open_by.new.c.kept in
+    let right = subst (λ r. Right q n (opening (given_in s)) (said r) e) c.in_err-open_by.was c.open_by.ensures.right in
     record {
       fault =
           ap fault_of p.1 ∙ ap Some p.2
-          ∙ sym (opens_refused q (standing c.args.c.now.kept) n (given_in s) (enterings 0 (shares_in s)) c.in-err-open-by.field-0.0 e c.in-ok-still-blank.ensures c.new-new.ensures.book right);
-      book = IfOk-from_err c.from-residual-in-err-open-by.result _ c.from-residual-in-err-open-by.ensures.0;
-      sound = IfOk-from_err c.from-residual-in-err-open-by.result _ c.from-residual-in-err-open-by.ensures.0;
+          ∙ sym (opens_refused q (standing c.args.c.now.kept) n (given_in s) (enterings 0 (shares_in s)) c.in_err-open_by.field-0.0 e c.in_ok-still_blank.ensures c.new-new.ensures.book right);
+      book = IfOk-from_err c.from_residual-in_err-open_by.result _ c.from_residual-in_err-open_by.ensures.0;
+      sound = IfOk-from_err c.from_residual-in_err-open_by.result _ c.from_residual-in_err-open_by.ensures.0;
     }
 
-pub returns-in-err-enter-all : goal.returns-in-err-enter-all
-returns-in-err-enter-all g c =
+pub returns-in_err-enter_all : goal.returns-in_err-enter_all
+returns-in_err-enter_all g c =
     let q = g.F.Field.numbers.q in
     let s = meant c.args.sheet.now in
-    let p = err_from_is_err_and c.from-residual-in-err-enter-all.result c.from-residual-in-err-enter-all.ensures.1 in
+    let p = err_from_is_err_and c.from_residual-in_err-enter_all.result c.from_residual-in_err-enter_all.ensures.1 in
     let n = standing c.new-new.result.kept in
-    let e = standing c.open-by.new.c.kept in
-    let right = subst (λ r. Right q n (opening (given_in s)) (said r) e) c.in-ok-open-by.was c.open-by.ensures.right in
-    let first = opens_first q (standing c.args.c.now.kept) n (given_in s) (enterings 0 (shares_in s)) e c.in-ok-still-blank.ensures c.new-new.ensures.book right in
+    let e = standing c.open_by.new.c.kept in
+    let right = subst (λ r. Right q n (opening (given_in s)) (said r) e) c.in_ok-open_by.was c.open_by.ensures.right in
+    let first = opens_first q (standing c.args.c.now.kept) n (given_in s) (enterings 0 (shares_in s)) e c.in_ok-still_blank.ensures c.new-new.ensures.book right in
     record {
-      fault = ap fault_of p.1 ∙ ap Some p.2 ∙ c.in-err-enter-all.ensures.fault ∙ sym first.fault;
-      book = IfOk-from_err c.from-residual-in-err-enter-all.result _ c.from-residual-in-err-enter-all.ensures.0;
-      sound = IfOk-from_err c.from-residual-in-err-enter-all.result _ c.from-residual-in-err-enter-all.ensures.0;
+      fault = ap fault_of p.1 ∙ ap Some p.2 ∙ c.in_err-enter_all.ensures.fault ∙ sym first.fault;
+      book = IfOk-from_err c.from_residual-in_err-enter_all.result _ c.from_residual-in_err-enter_all.ensures.0;
+      sound = IfOk-from_err c.from_residual-in_err-enter_all.result _ c.from_residual-in_err-enter_all.ensures.0;
     }
 
 pub returns : goal.returns
@@ -45,11 +45,11 @@ returns g c =
     let q = g.F.Field.numbers.q in
     let s = meant c.args.sheet.now in
     let n = standing c.new-new.result.kept in
-    let e = standing c.open-by.new.c.kept in
-    let right = subst (λ r. Right q n (opening (given_in s)) (said r) e) c.in-ok-open-by.was c.open-by.ensures.right in
-    let first = opens_first q (standing c.args.c.now.kept) n (given_in s) (enterings 0 (shares_in s)) e c.in-ok-still-blank.ensures c.new-new.ensures.book right in
+    let e = standing c.open_by.new.c.kept in
+    let right = subst (λ r. Right q n (opening (given_in s)) (said r) e) c.in_ok-open_by.was c.open_by.ensures.right in
+    let first = opens_first q (standing c.args.c.now.kept) n (given_in s) (enterings 0 (shares_in s)) e c.in_ok-still_blank.ensures c.new-new.ensures.book right in
     record {
-      fault = c.in-ok-enter-all.ensures.fault ∙ sym first.fault;
-      book = c.in-ok-enter-all.ensures.book ∙ sym first.book;
-      sound = c.enter-all.ensures.sound (c.open-by.ensures.sound c.new-new.ensures.sound);
+      fault = c.in_ok-enter_all.ensures.fault ∙ sym first.fault;
+      book = c.in_ok-enter_all.ensures.book ∙ sym first.book;
+      sound = c.enter_all.ensures.sound (c.open_by.ensures.sound c.new-new.ensures.sound);
     }

@@ -10,11 +10,11 @@ returns g c =
     let tag = g.F.Field.tag in
     let b = standing c.args.c.now.kept in
     let bs = c.args.bytes.now in
-    let e = standing c.in-ok-loaded.loaded.kept in
+    let e = standing c.in_ok-loaded.loaded.kept in
     let right : Loads q tag b bs done e = search rules in
     record {
       right = right;
       same = tt;
       sound = search rules;
-      back = loads_back q tag b bs e (λ i. let h = c.type-inv.bytes i in omega arith) right;
+      back = loads_back q tag b bs e (λ i. let h = c.type_inv.bytes i in omega arith) right;
     }

@@ -7,15 +7,15 @@ use Rattle.sheets.specs.Reading.{meant}
 use Rattle.sheets.proofs.Told.{told_count, given_by}
 use Rattle.transfer.proofs.loading.open_by.Goals as goal
 
-pub slice-bounds-open-end : goal.slice-bounds-open-end
-slice-bounds-open-end g c =
+pub slice_bounds-open-end : goal.slice_bounds-open-end
+slice_bounds-open-end g c =
     let n = told_count (meant c.args.sheet.now) in
     let h = c.points-points.ensures.length in
     let within : c.count-n.result ≤ length c.points-points.result = omega arith in
     search rules
 
-pub slice-bounds-open-end-2 : goal.slice-bounds-open-end-2
-slice-bounds-open-end-2 g c =
+pub slice_bounds-open-end-2 : goal.slice_bounds-open-end-2
+slice_bounds-open-end-2 g c =
     let n = told_count (meant c.args.sheet.now) in
     let h = c.multipliers-multipliers.ensures.length in
     let within : c.count-n.result ≤ length c.multipliers-multipliers.result = omega arith in

@@ -8,5 +8,5 @@ returns c =
     let out = c.args.out.now in
     let bytes = c.args.bytes.now in
     let end = at + length bytes in
-    ap (λ (ys : List ℕ). take at out ++ (ys ++ post_of at (end - at) out)) c.copy-from-slice.ensures.after
+    ap (λ (ys : List ℕ). take at out ++ (ys ++ post_of at (end - at) out)) c.copy_from_slice.ensures.after
     ∙ ap (λ (zs : List ℕ). take at out ++ (bytes ++ zs)) (Post-is at end out (omega arith))

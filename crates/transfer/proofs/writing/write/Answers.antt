@@ -9,16 +9,16 @@ use Rattle.transfer.proofs.writing.write.Goals as goal
 pub returns : goal.returns
 returns g c =
     let k = c.args.c.now.kept in
-    let o = c.in-ok-opened.opened.now in
-    let e = c.in-ok-opened.ensures in
+    let o = c.in_ok-opened.opened.now in
+    let e = c.in_ok-opened.ensures in
     let out = c.args.out.now in
     let tag = g.F.Field.tag in
     let n = c.count.ensures in
     let size = size_open tag k o e in
     let enough : 9 + 6 * o.code.count ≤ length out = omega arith in
     let count : 9 + 6 * c.count.result ≡ length (bytes_of tag (standing k)) = omega arith in
-    let area : c.write-sheet.new.out ≡ bytes_of tag (standing k) ++ drop (length (bytes_of tag (standing k))) out =
-    c.write-sheet.ensures
+    let area : c.write_sheet.new.out ≡ bytes_of tag (standing k) ++ drop (length (bytes_of tag (standing k))) out =
+    c.write_sheet.ensures
     ∙ sym (ap (λ (l : List ℕ). l ++ drop (9 + 6 * o.code.count) out) (bytes_open tag k o e))
     ∙ sym (ap (λ (m : ℕ). bytes_of tag (standing k) ++ drop m out) size) in
     record {

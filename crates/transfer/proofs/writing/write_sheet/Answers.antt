@@ -5,7 +5,7 @@ use Rattle.transfer.proofs.writing.write_sheet.Goals as goal
 
 pub loop-p-preserved : goal.loop-p-preserved
 loop-p-preserved g c =
-    entry_next g.F.Field.tag (given_of c.args.opened.now) (shares (standing c.args.c.now.kept)) c.loop-p.p c.put.new.out c.loop-p.out c.entry-at.result c.put-in-loop-p.new.out c.loop-p.invariant c.entry-at.ensures c.put-in-loop-p.ensures
+    entry_next g.F.Field.tag (given_of c.args.opened.now) (shares (standing c.args.c.now.kept)) c.loop-p.p c.put.new.out c.loop-p.out c.entry_at.result c.put-in-loop-p.new.out c.loop-p.invariant c.entry_at.ensures c.put-in-loop-p.ensures
 
 pub returns : goal.returns
 returns g c =
