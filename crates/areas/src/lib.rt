@@ -1,4 +1,6 @@
 // A work area that is overwritten with zeros when it is let go, on every way out of the call that works in it.
+#![tactic(auto)]
+
 ghost use Rattle.areas.specs.Zeros.{AllZero};
 
 // Made around a lent area at the start of a call: `let guard = Wipe { area: work };`. The call works in `guard.area`.

@@ -1,4 +1,6 @@
 // The first stage of a listing: the syndrome, Euclid's rows and the weights.
+#![tactic(auto)]
+
 ghost use Rattle.std.specs.Prelude.{◌≡◌, ◌≤◌, length};
 
 mod euclid;

@@ -1,4 +1,6 @@
 // The basis call: what the first stage of a listing finds for the shares of a source, written to the caller's area.
+#![tactic(auto)]
+
 mod calling;
 #[cfg(test)]
 mod tests;

@@ -1,5 +1,7 @@
 // Lists the shares of a fixed set of codes many times, with as many planted errors as the radius: what was listed goes to standard output, and how many
 // nanoseconds a listing took to standard error.
+#![tactic(auto)]
+
 ghost use Rattle.collections.specs.Standing.{Sound};
 
 use candidates::Candidate;

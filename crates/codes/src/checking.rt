@@ -1,6 +1,6 @@
 ghost use Rattle.std.specs.Prelude.{◌≡◌, ◌<◌, ◌≤◌, length, take, IfOk};
 ghost use Rattle.decoding.specs.Setting.{Accepted};
-ghost use Rattle.codes.specs.Opening.{given, unfit as unfit-at, repeats as repeats-at, first_unfit, first_repeat, count_fault, threshold_fault, place_fault, setting_fault, first_fault, fault_of, Holds};
+ghost use Rattle.codes.specs.Opening.{given, unfit as unfit_at, repeats as repeats_at, first_unfit, first_repeat, count_fault, threshold_fault, place_fault, setting_fault, first_fault, fault_of, Holds};
 
 use crate::{Code, Opening, Setting};
 use faults::CodeFault;
@@ -20,7 +20,7 @@ fn first_unfit(q: u16, xs: &[u16]) -> Option<usize>
 // Whether the number at place i stands at an earlier place too.
 fn repeats(xs: &[u16], i: usize) -> bool
     requires { i < length xs.now }
-    ensures { result ≡ repeats-at xs.now i }
+    ensures { result ≡ repeats_at xs.now i }
 {
     for j in 0..i {
         if xs[j] == xs[i] {

@@ -1,5 +1,7 @@
 // Compares the roots call with trying every pair, over the field of 7 elements: for each of eight planted pairs, the 64 forms of degree 3 that are the product of
 // its factor with the factors of two planted pairs. Prints a line for each, with the number of roots of each form, or `!` where the two differ.
+#![tactic(auto)]
+
 mod plain;
 
 use fields::Mod7;

@@ -1,6 +1,8 @@
 // The console: which field the header of a sheet names, the listing of a sheet, and what is printed of it.
 //
 // In order: the header of an input (headers), the lines of a report (lines), and the report of a sheet (listing).
+#![tactic(auto)]
+
 mod headers;
 mod lines;
 mod listing;

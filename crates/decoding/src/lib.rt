@@ -1,5 +1,7 @@
 // Generalised Reed-Solomon codes and their list decoding: definitions in specs/, proofs in proofs/. The functions have no work to do: the
 // contract of each is a theorem of specs/Theorems, so that a check asks for its proof.
+#![tactic(auto)]
+
 ghost use Rattle.algebra.specs.Field.{Field};
 ghost use Rattle.decoding.specs.Theorems.{MinimumDistance, KeyEquation, InterpolantExists, Complete, CompleteList, SiftedListing, WalksFindRoots, AtMost};
 

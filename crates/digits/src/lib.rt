@@ -1,4 +1,6 @@
 // The depth-first walk over the digits of the power series at which a form in two variables vanishes.
+#![tactic(auto)]
+
 ghost use Rattle.std.specs.Prelude.{◌≡◌, ◌-◌, ◌*◌, ◌<◌, ◌≤◌};
 
 mod digit;

@@ -1,5 +1,7 @@
 // A step of Kötter's iteration. Of the rows that violate a constraint the least, the pivot, is taken from the others until they satisfy it, and is
 // itself multiplied by x - alpha. A row is dead, and no longer looked at, once its rank reaches the bound; so no row outgrows its place.
+#![tactic(auto)]
+
 ghost use Rattle.std.specs.Prelude.{◌≡◌, ℕ, ◌+◌, ◌-◌, ◌*◌, ◌<◌, ◌≤◌, length, IfSome, MatchOption, slice_index};
 ghost use Rattle.fields.specs.Numbers.{AllBelow};
 ghost use Rattle.polynomials.specs.Series.{poly, Reads, plus_shifted};

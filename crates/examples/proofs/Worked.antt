@@ -1,7 +1,7 @@
 -- The worked cases, by computing.
 use Rattle.std.proofs.Common.{◌≡◌, refl}
 use Rattle.algebra.specs.Sums.{count}
-use Rattle.binary.specs.Binary.{carryless, reduced, product as binary-product}
+use Rattle.binary.specs.Binary.{carryless, reduced, product as binary_product}
 use Rattle.codes.specs.Codewords.{value}
 use Rattle.codes.specs.Settings.{accepted_setting, least_limit, least_setting}
 use Rattle.stages.specs.Coefficients.{size_to, less, sum, product, power}
@@ -12,7 +12,7 @@ use Rattle.examples.specs.Messages.{before_each, messages, near}
 use Rattle.examples.specs.Worked.{WorkedCases}
 
 pub worked_cases : WorkedCases
-unfolding carryless reduced binary-product count value accepted_setting least_limit least_setting size_to less sum product power dual coefficient syndrome divide run basis before_each messages near
+unfolding carryless reduced binary_product count value accepted_setting least_limit least_setting size_to less sum product power dual coefficient syndrome divide run basis before_each messages near
 worked_cases =
     record {
       syndrome = refl;

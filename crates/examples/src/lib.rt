@@ -1,4 +1,6 @@
 // Worked cases of the definitions, proved by computing.
+#![tactic(auto)]
+
 ghost use Rattle.examples.specs.Worked.{WorkedCases};
 
 // All worked cases hold.

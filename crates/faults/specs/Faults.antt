@@ -2,7 +2,7 @@
 use Rattle.std.specs.Prelude.{ℕ, ◌+◌, ◌*◌}
 use Rattle.faults.specs.declared.Refusal.{Refusal}
 use Rattle.faults.specs.declared.Layer.{Layer}
-use Rattle.faults.specs.declared.Layer.TheVariants.{Code as in_code, Collection as in-collection, Listing as in-listing, Sheet as in-sheet}
+use Rattle.faults.specs.declared.Layer.TheVariants.{Code as in_code, Collection as in_collection, Listing as in_listing, Sheet as in_sheet}
 use Rattle.faults.specs.declared.CodeFault.{CodeFault}
 use Rattle.faults.specs.declared.CodeFault.TheVariants.{PlaceCount, Threshold, Point, RepeatedPoint, Multiplier, Setting, NoSetting}
 use Rattle.faults.specs.declared.CollectionFault.{CollectionFault}
@@ -25,30 +25,30 @@ code_refusal (Setting τ s ℓ) = refusal 6 0 in_code
 code_refusal NoSetting = refusal 12 0 in_code
 
 abbrev pub collection_refusal : CollectionFault → Refusal
-collection_refusal Blank = refusal 20 0 in-collection
-collection_refusal AlreadyOpen = refusal 21 0 in-collection
+collection_refusal Blank = refusal 20 0 in_collection
+collection_refusal AlreadyOpen = refusal 21 0 in_collection
 collection_refusal (Code e) = code_refusal e
-collection_refusal (NoSuchPlace p) = refusal 7 p in-collection
-collection_refusal (NotAnElement p v) = refusal 8 p in-collection
-collection_refusal (OtherValue p held) = refusal 22 p in-collection
-collection_refusal (NothingThere p) = refusal 23 p in-collection
+collection_refusal (NoSuchPlace p) = refusal 7 p in_collection
+collection_refusal (NotAnElement p v) = refusal 8 p in_collection
+collection_refusal (OtherValue p held) = refusal 22 p in_collection
+collection_refusal (NothingThere p) = refusal 23 p in_collection
 
 abbrev pub listing_refusal : ListingFault → Refusal
 listing_refusal (Collection e) = collection_refusal e
-listing_refusal (SourceCount count) = refusal 9 0 in-listing
-listing_refusal (EmptyPlace p) = refusal 24 p in-listing
-listing_refusal (NotAnElementListed p v) = refusal 8 p in-listing
-listing_refusal NegativeWeight = refusal 25 0 in-listing
-listing_refusal (ResultArea length) = refusal 10 0 in-listing
-listing_refusal (WorkArea length) = refusal 11 0 in-listing
-listing_refusal ZeroForm = refusal 16 0 in-listing
-listing_refusal (MessageLength length) = refusal 17 0 in-listing
-listing_refusal Shape = refusal 17 0 in-listing
+listing_refusal (SourceCount count) = refusal 9 0 in_listing
+listing_refusal (EmptyPlace p) = refusal 24 p in_listing
+listing_refusal (NotAnElementListed p v) = refusal 8 p in_listing
+listing_refusal NegativeWeight = refusal 25 0 in_listing
+listing_refusal (ResultArea length) = refusal 10 0 in_listing
+listing_refusal (WorkArea length) = refusal 11 0 in_listing
+listing_refusal ZeroForm = refusal 16 0 in_listing
+listing_refusal (MessageLength length) = refusal 17 0 in_listing
+listing_refusal Shape = refusal 17 0 in_listing
 
 abbrev pub sheet_refusal : SheetFault → Refusal
-sheet_refusal Version = refusal 13 0 in-sheet
-sheet_refusal Length = refusal 14 1 in-sheet
-sheet_refusal (OtherField number) = refusal 15 3 in-sheet
+sheet_refusal Version = refusal 13 0 in_sheet
+sheet_refusal Length = refusal 14 1 in_sheet
+sheet_refusal (OtherField number) = refusal 15 3 in_sheet
 sheet_refusal (CollectionLoaded e) = collection_refusal e
 
 -- The byte of a sheet: the header has nine bytes, and the entry of place p begins at 9 + 6p with the point, then the multiplier, then the share.

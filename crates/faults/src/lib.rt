@@ -1,7 +1,9 @@
+#![tactic(auto)]
+
 ghost use Rattle.std.specs.Prelude.{◌≡◌};
 ghost use Rattle.faults.specs.declared.CollectionFault.TheVariants.{Code as the_code};
-ghost use Rattle.faults.specs.declared.ListingFault.TheVariants.{Collection as the-collection};
-ghost use Rattle.faults.specs.declared.SheetFault.TheVariants.{Collection as the-loaded};
+ghost use Rattle.faults.specs.declared.ListingFault.TheVariants.{Collection as the_collection};
+ghost use Rattle.faults.specs.declared.SheetFault.TheVariants.{Collection as the_loaded};
 
 mod refusals;
 mod shown;
@@ -95,7 +97,7 @@ impl From<CodeFault> for CollectionFault {
 }
 
 impl From<CollectionFault> for ListingFault {
-    ghost from_gives = { λ e r. r ≡ the-collection e };
+    ghost from_gives = { λ e r. r ≡ the_collection e };
 
     fn from(e: CollectionFault) -> ListingFault {
         ListingFault::Collection(e)
@@ -103,7 +105,7 @@ impl From<CollectionFault> for ListingFault {
 }
 
 impl From<CollectionFault> for SheetFault {
-    ghost from_gives = { λ e r. r ≡ the-loaded e };
+    ghost from_gives = { λ e r. r ≡ the_loaded e };
 
     fn from(e: CollectionFault) -> SheetFault {
         SheetFault::Collection(e)
@@ -111,7 +113,7 @@ impl From<CollectionFault> for SheetFault {
 }
 
 impl From<CodeFault> for SheetFault {
-    ghost from_gives = { λ e r. r ≡ the-loaded (the_code e) };
+    ghost from_gives = { λ e r. r ≡ the_loaded (the_code e) };
 
     fn from(e: CodeFault) -> SheetFault {
         SheetFault::Collection(CollectionFault::Code(e))

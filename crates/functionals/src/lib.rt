@@ -1,5 +1,7 @@
 // The functionals of a root of multiplicity s at a place (alpha; y : z): the coefficient of u^a v^b in the expansion of a homogeneous Q about the
 // place. Their numbers stand in two tables, which are filled once for each place: the Taylor rows at alpha and the weights of the positions.
+#![tactic(auto)]
+
 ghost use Rattle.std.specs.Prelude.{◌≡◌, ℕ, ◌+◌, ◌-◌, ◌*◌, ◌/◌, ◌%◌, ◌<◌, ◌≤◌, length, slice_index};
 ghost use Rattle.algebra.specs.Sums.{sum as total};
 ghost use Rattle.fields.specs.Numbers.{AllBelow, elem, times, ring_of, field_of};

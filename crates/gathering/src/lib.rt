@@ -1,4 +1,6 @@
 // The shares of a source, gathered for a listing: a source is asked once for each place, and what the stages work on are plain numbers.
+#![tactic(auto)]
+
 ghost use Rattle.std.specs.Prelude.{◌≡◌, ◌≤◌, length, IfOk, OnOk};
 ghost use Rattle.codes.specs.First.{or_else};
 ghost use Rattle.codes.specs.Opening.{fault_of};

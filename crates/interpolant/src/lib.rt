@@ -1,5 +1,7 @@
 // The interpolant: a form Q in y and z over the polynomials in x, not zero, of bounded weighted degree, with a root of given multiplicity at each
 // of given places. Kötter's iteration finds it without elimination on the whole system: the constraints are met one by one, in three loops.
+#![tactic(auto)]
+
 ghost use Rattle.std.specs.Prelude.{◌≡◌, ℕ, suc, ◌+◌, ◌-◌, ◌*◌, ◌^◌, ◌<◌, ◌≤◌, length, slice_index};
 ghost use Rattle.fields.specs.Numbers.{AllBelow};
 ghost use Rattle.functionals.specs.Tables.{TaylorTable};

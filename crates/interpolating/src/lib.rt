@@ -1,4 +1,6 @@
 // Interpolating as a public call: from the shares of a source to the interpolant, in a lent area.
+#![tactic(auto)]
+
 ghost use Rattle.std.specs.Prelude.{◌≡◌, suc, ◌+◌, ◌*◌, ◌≤◌, length, take, drop, pos, ◌≤ℤ◌, IfOk};
 ghost use Rattle.areas.specs.Zeros.{AllZero};
 ghost use Rattle.fields.specs.Numbers.{AllBelow};

@@ -15,7 +15,7 @@ use Rattle.faults.specs.declared.CodeFault.{CodeFault}
 use Rattle.faults.specs.declared.SheetFault.TheVariants.{Collection}
 use Rattle.faults.specs.declared.CollectionFault.TheVariants.{Code as by_code}
 use Rattle.sheets.specs.Sheet.{Sheet, given_in}
-use Rattle.issuance.specs.declared.IssueFault.TheVariants.{Sheet as by-sheet, Listing}
+use Rattle.issuance.specs.declared.IssueFault.TheVariants.{Sheet as by_sheet, Listing}
 use Rattle.issuance.specs.Issuance.{over_fault}
 use Rattle.codes.proofs.Firsts.{when_false}
 use Rattle.codes.proofs.Issued.{at_place}
@@ -51,5 +51,5 @@ pub over_none : (F : Numbers) (s : Sheet) (message : List ℕ) → None ≡ firs
     → None ≡ over_fault F s message
 over_none F s message a b =
     sym
-    (ap (λ (o : Option CodeFault). or_else (mapped (λ e. by-sheet (Collection (by_code e))) o) (mapped Listing (message_fault F.q s.threshold message))) (sym a)
+    (ap (λ (o : Option CodeFault). or_else (mapped (λ e. by_sheet (Collection (by_code e))) o) (mapped Listing (message_fault F.q s.threshold message))) (sym a)
     ∙ ap (mapped Listing) (sym b))

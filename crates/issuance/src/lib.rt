@@ -1,7 +1,9 @@
 // Issuing a message by a share sheet: over the field and by the code that the sheet names.
+#![tactic(auto)]
+
 ghost use Rattle.std.specs.Prelude.{◌≡◌, length};
-ghost use Rattle.issuance.specs.declared.IssueFault.TheVariants.{Sheet as by-sheet, Listing as by-listing};
-ghost use Rattle.faults.specs.declared.SheetFault.TheVariants.{Collection as by-collection};
+ghost use Rattle.issuance.specs.declared.IssueFault.TheVariants.{Sheet as by_sheet, Listing as by_listing};
+ghost use Rattle.faults.specs.declared.SheetFault.TheVariants.{Collection as by_collection};
 ghost use Rattle.faults.specs.declared.CollectionFault.TheVariants.{Code as by_code};
 
 mod issuing;
@@ -19,7 +21,7 @@ pub enum IssueFault {
 }
 
 impl From<SheetFault> for IssueFault {
-    ghost from_gives = { λ e r. r ≡ by-sheet e };
+    ghost from_gives = { λ e r. r ≡ by_sheet e };
 
     fn from(e: SheetFault) -> IssueFault {
         IssueFault::Sheet(e)
@@ -27,7 +29,7 @@ impl From<SheetFault> for IssueFault {
 }
 
 impl From<CodeFault> for IssueFault {
-    ghost from_gives = { λ e r. r ≡ by-sheet (by-collection (by_code e)) };
+    ghost from_gives = { λ e r. r ≡ by_sheet (by_collection (by_code e)) };
 
     fn from(e: CodeFault) -> IssueFault {
         IssueFault::Sheet(SheetFault::Collection(CollectionFault::Code(e)))
@@ -35,7 +37,7 @@ impl From<CodeFault> for IssueFault {
 }
 
 impl From<ListingFault> for IssueFault {
-    ghost from_gives = { λ e r. r ≡ by-listing e };
+    ghost from_gives = { λ e r. r ≡ by_listing e };
 
     fn from(e: ListingFault) -> IssueFault {
         IssueFault::Listing(e)

@@ -1,4 +1,6 @@
 // Issues the shares of a message by a share sheet: the sheet comes on standard input, the message's numbers are the arguments.
+#![tactic(auto)]
+
 use issuance::{Issued, issue_sheet};
 use std::io::Read;
 use std::{env, io};

@@ -8,7 +8,7 @@ use Rattle.faults.specs.Faults.{collection_refusal, sheet_refusal, sheet_byte}
 use Rattle.codes.specs.Opening.{given}
 use Rattle.collections.specs.declared.Place.{Place}
 use Rattle.collections.specs.Book.{Book, Act, opening, entering, withdrawing, reading, Said, done, told, refused, Right}
-use Rattle.transfer.specs.Loading.{Loads, Said as SaidLoading, done as load-done, refused as load-refused}
+use Rattle.transfer.specs.Loading.{Loads, Said as SaidLoading, done as load_done, refused as load_refused}
 use Rattle.ledger.specs.declared.Call.{Call}
 use Rattle.ledger.specs.declared.Call.TheVariants.{Open, Load, Enter, Withdraw, Read}
 use Rattle.ledger.specs.declared.Answer.{Answer}
@@ -45,8 +45,8 @@ plain (told x) = tells x
 plain (refused r f) = refuses r None
 
 abbrev pub with_byte : SaidLoading → Reply
-with_byte load-done = accepted
-with_byte (load-refused r byte f) = refuses r (Some byte)
+with_byte load_done = accepted
+with_byte (load_refused r byte f) = refuses r (Some byte)
 
 -- one act, and one loading, against the book
 pub record Acted (q : ℕ) (before : Book) (act : Act) (r : Reply) (after : Book) : Type 0 where

@@ -1,4 +1,6 @@
 // Lists the candidates of a share sheet, which comes on standard input: every codeword that is near its shares.
+#![tactic(auto)]
+
 use console::{LONGEST, list_sheet};
 use std::io;
 use std::io::Read;

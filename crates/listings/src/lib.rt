@@ -1,4 +1,6 @@
 // What a listing is, by the share book, as definitions in specs/; and two theorems about them, each on a function.
+#![tactic(auto)]
+
 ghost use Rattle.listings.specs.Theorems.{ListingUnique, WithinMeant};
 
 // There is only one listing of given shares.

@@ -1,5 +1,7 @@
 // Listing: every message whose codeword is within the radius of the shares that a source tells, with the code and the setting of an open collection. The shares
 // are gathered and the areas measured first; then the stages are run one after another, by numbers alone.
+#![tactic(auto)]
+
 ghost use Rattle.std.specs.Prelude.{◌≡◌, ◌≤◌, length, take, None};
 ghost use Rattle.areas.specs.Zeros.{AllZero};
 ghost use Rattle.fields.specs.Numbers.{AllBelow};

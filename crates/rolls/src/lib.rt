@@ -1,4 +1,6 @@
 // An ordered roll without repeats over slots that the caller lends.
+#![tactic(auto)]
+
 ghost use Rattle.std.specs.Prelude.{◌≡◌};
 
 mod entering;

@@ -2,6 +2,8 @@
 //
 // In order: the question and its refusals (asking), copies of the form's runs (spreading), the leaf that enters what it finds into a roll
 // (collecting), the walk of one chart (walking), and both charts, with the call (listing).
+#![tactic(auto)]
+
 mod asking;
 mod collecting;
 mod listing;

@@ -1,3 +1,5 @@
+#![tactic(auto)]
+
 mod reading;
 
 use codes::Setting;

@@ -1,6 +1,6 @@
 ghost use Rattle.std.specs.Prelude.{◌≡◌, ◌+◌, ◌*◌, ◌/◌, ◌≤◌, length, take, IfOk};
 ghost use Rattle.codes.specs.Opening.{fault_of};
-ghost use Rattle.sheets.specs.Sheet.{number as number_in, column as column-in, share_in, shares_in, given_in, header_fault, field_fault};
+ghost use Rattle.sheets.specs.Sheet.{number as number_in, column as column_in, share_in, shares_in, given_in, header_fault, field_fault};
 ghost use Rattle.sheets.specs.Reading.{meant, Short, Reads};
 
 use crate::Reader;
@@ -33,7 +33,7 @@ fn column(entries: &[u8], part: usize) -> [u16; 255]
     requires part_bound { part ≤ 4 }
     requires entries_len_bound { length entries.now ≤ 6 * 255 }
     ensures length { length result ≡ 255 }
-    ensures front { take (length entries.now / 6) result ≡ column-in entries.now part (length entries.now / 6) }
+    ensures front { take (length entries.now / 6) result ≡ column_in entries.now part (length entries.now / 6) }
 {
     let mut numbers = [0; 255];
     for p in 0..entries.len() / 6 {

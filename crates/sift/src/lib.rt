@@ -2,6 +2,8 @@
 //
 // A pair (f1, f2) and the runs h1, h2 of two rows give the locator f1 h1 + f2 h2. It counts if it has as many roots among the points as its degree; the
 // message is then read off the shares away from the roots, and its codeword has to be the shares there.
+#![tactic(auto)]
+
 ghost use Rattle.std.specs.Prelude.{◌≡◌, ◌+◌, ◌-◌, ◌*◌, ◌<◌, ◌≤◌, length};
 ghost use Rattle.algebra.specs.Poly.{Below};
 ghost use Rattle.decoding.specs.Code.{Code};

@@ -12,7 +12,7 @@ use Rattle.algebra.specs.Poly.{conv, padd, pneg, scale, const, Below, mono, Degr
 use Rattle.algebra.specs.PolyRing.{const_conv, conv_assoc}
 use Rattle.algebra.specs.RingLaws as L
 use Rattle.algebra.specs.Division.{size as size_of}
-use Rattle.algebra.proofs.Degrees.{size_below, size_degree as degree-of-size}
+use Rattle.algebra.proofs.Degrees.{size_below, size_degree as degree_of_size}
 use Rattle.fields.specs.Numbers.{Numbers, AllBelow, Element, elem, pos, plus, minus, times, ring_of, field_of, elem_add, elem_mul, elem_neg, elem_inj}
 use Rattle.polynomials.specs.Series.{poly, plus_shifted}
 use Rattle.polynomials.proofs.Readings.{all_at, past, poly_past, multiple_zero}
@@ -64,7 +64,7 @@ module _ (F : Numbers) where
 
   pub size_has_degree : (xs : List ℕ) (d : ℕ) → AllBelow F.q xs → size xs ≡ suc d → Degree (ring_of F) d (poly F xs)
   size_has_degree xs d all e =
-      degree-of-size (field_of F) (length xs) d (poly F xs) (poly_past F xs) (sym (size_is (length xs) xs all) ∙ e)
+      degree_of_size (field_of F) (length xs) d (poly F xs) (poly_past F xs) (sym (size_is (length xs) xs all) ∙ e)
 
   -- p - c x ^ k g
   less_value : (c k : ℕ) (g p : List ℕ) → ℕ → ℕ

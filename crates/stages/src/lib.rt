@@ -1,3 +1,5 @@
+#![tactic(auto)]
+
 ghost use Rattle.stages.specs.Readings.{SyndromeReads, RowsStop, BasisReads, DegreesRead, DistanceReads};
 
 // The stages of a listing as definitions that compute, in specs/, and what they mean in the decoder's theory: one function for each theorem.

@@ -1,4 +1,6 @@
 // A collection from a share sheet, and a share sheet from a collection.
+#![tactic(auto)]
+
 mod loading;
 mod writing;
 
