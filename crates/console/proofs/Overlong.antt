@@ -1,5 +1,5 @@
 -- The reader's own checks refuse every input of more than 2,048 bytes, by the version or by the length; so the header is what the reader reads.
-use Rattle.std.proofs.Common.{◌≡◌, ℕ, ◌+◌, ◌-◌, ◌*◌, ◌<◌, ◌≤◌, Bool, true, false, cond, not, ◌||◌, eqb, ltb, List, length, get_or, take, drop, Some, None, Err, Option, unwrap_or, sym, refl, ap, ◌∙◌, subst, arith, lit<, length-drop, length-take, get_or-take}
+use Rattle.std.proofs.Common.{◌≡◌, ℕ, ◌-◌, ◌*◌, ◌<◌, ◌≤◌, Bool, true, false, cond, not, ◌||◌, eqb, ltb, List, length, get_or, take, drop, Some, None, Err, unwrap_or, sym, refl, ap, ◌∙◌, subst, arith, lit<, length-drop, length-take, get_or-take}
 use native.Mathlib.Nat.{min-eq_left}
 use Rattle.std.proofs.lemmas.Bool.{le-ltb, lt-ltb, ltb-true, true≢false}
 use Rattle.faults.specs.declared.SheetFault.{SheetFault}

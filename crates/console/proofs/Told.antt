@@ -5,12 +5,12 @@ use Rattle.faults.specs.declared.ListingFault.{ListingFault}
 use Rattle.faults.specs.declared.SheetFault.{SheetFault}
 use Rattle.collections.specs.Book.{Book, unopened}
 use Rattle.collections.specs.Standing.{shares}
-use Rattle.transfer.specs.Loading.{load_fault, loaded, said_by, left_by, Loads}
+use Rattle.transfer.specs.Loading.{load_fault, loaded, said_by, left_by}
 use Rattle.listings.specs.Calls.{listing_fault}
 use Rattle.runs.specs.declared.Call.{Call}
 use Rattle.runs.specs.declared.Call.TheVariants.{Load, List as ListAll}
 use Rattle.runs.specs.declared.Answer.{Answer}
-use Rattle.runs.specs.Law.{Reply, lists, refuses, reply, with_byte, LoadedBy, RightList, GivesAll, ListedBy, Answered, Runs, stop, go}
+use Rattle.runs.specs.Law.{Reply, reply, with_byte, RightList, Answered, Runs, stop, go}
 use Rattle.console.specs.Output.{PrintsListing, PrintsLoading, PrintsSheet}
 use Rattle.console.specs.Replies.{reply_text, replies_text, ToListing}
 

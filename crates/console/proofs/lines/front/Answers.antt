@@ -1,4 +1,4 @@
-use Rattle.std.proofs.Common.{◌≡◌, ℕ, ◌-◌, take, ap, ◌∙◌}
+use Rattle.std.proofs.Common.{ℕ, take, ap, ◌∙◌}
 use native.Mathlib.Nat.{sub-zero}
 use Rattle.console.proofs.Fronts.{take_min}
 use Rattle.console.proofs.lines.front.Goals as goal

@@ -12,7 +12,7 @@ loop-candidate-preserved g c =
     let x = c.args.self.now in
     written_turn g.W.Write.write_str_gives (λ y. ended (candidate_line x.threshold x.places y)) c.front-candidates.result.now c.writeln.new.self
     c.loop-candidate.f c.writeln-in-loop-candidate.new.self (Ok c.in_ok-writeln-2.field-0) c.loop-candidate.candidate-index
-    (record { distance = 0; message = []; word = [] }) c.loop-candidate-test.true c.loop-candidate.invariant c.in_ok-writeln-2.ensures.shows refl
+    (record { distance = 0; message = []; word = [] }) c.loop-candidate-test.true c.loop-candidate.invariant c.in_ok-writeln-2.ensures.writes refl
 
 pub returns-clause-writes : goal.returns-clause-writes
 returns-clause-writes g c plain ok =
@@ -22,4 +22,4 @@ returns-clause-writes g c plain ok =
     (ap (list_text x.threshold x.places) {y = take x.found.count x.found.records} c.front-candidates.ensures)
     (written_all g.W.Write.write_str_gives (λ y. ended (candidate_line x.threshold x.places y)) cs c.args.f.now c.writeln.new.self c.loop-candidate.f
     (ended (codes "candidates " ++ decimal (length cs))) c.loop-candidate.candidate-index c.loop-candidate-test.false
-    (c.in_ok-writeln.ensures.shows plain (refl {a = true})) c.loop-candidate.invariant)
+    (c.in_ok-writeln.ensures.writes plain (refl {a = true})) c.loop-candidate.invariant)

@@ -10,7 +10,7 @@ loop-value-init g c = put_none g.W.Write.write_str_gives c.args.f.now
 pub loop-value-preserved : goal.loop-value-preserved
 loop-value-preserved g c =
     written_turn g.W.Write.write_str_gives (λ x. codes " " ++ decimal x) c.front-value-items.result.now c.args.f.now c.loop-value.f c.write.new.self
-    (Ok c.in_ok-write.field-0) c.loop-value.value-index 0 c.loop-value-test.true c.loop-value.invariant c.in_ok-write.ensures.shows refl
+    (Ok c.in_ok-write.field-0) c.loop-value.value-index 0 c.loop-value-test.true c.loop-value.invariant c.in_ok-write.ensures.writes refl
 
 pub returns-clause-writes : goal.returns-clause-writes
 returns-clause-writes g c plain ok =
