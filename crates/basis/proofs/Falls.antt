@@ -1,15 +1,15 @@
 -- The size of a falls with each step of the rows.
-use Rattle.std.proofs.Common.{◌≡◌, ℕ, zero, suc, ◌+◌, ◌-◌, ◌<◌, ◌≤◌, Bool, true, false, cond, eqb, List, length, get_or, sym, refl, ap, ◌∙◌, subst, ap₂, arith}
+use Rattle.std.proofs.Common.{◌≡◌, ℕ, zero, suc, ◌+◌, ◌-◌, ◌<◌, ◌≤◌, Bool, true, false, cond, eqb, List, length, get_or, sym, refl, ap, ◌∙◌, subst, arith}
 use native.Mathlib.Decide.{dec_lt}
 use borrow.Author.Tests.{eqb-false}
 use Rattle.algebra.specs.Poly.{Below, Degree}
-use Rattle.algebra.specs.Division.{reduce, remainder}
+use Rattle.algebra.specs.Division.{remainder}
 use Rattle.algebra.proofs.Division.{remainder_below}
-use Rattle.fields.specs.Numbers.{Numbers, AllBelow, Element, elem, pos, ring_of, field_of, elem_inj}
+use Rattle.fields.specs.Numbers.{Numbers, AllBelow, pos, ring_of, field_of, elem_inj}
 use Rattle.polynomials.specs.Series.{poly}
 use Rattle.polynomials.proofs.Readings.{all_at}
 use Rattle.polynomials.proofs.Divides.{ratio_is, step_is}
-use Rattle.stages.specs.Coefficients.{size_to, size, less}
+use Rattle.stages.specs.Coefficients.{size_to, size}
 use Rattle.stages.specs.Euclid.{Row, row_less, divide, next}
 use Rattle.stages.proofs.Coefficients.{size_under, size_has_degree, less_reads}
 use Rattle.basis.specs.Rows.{Fits}

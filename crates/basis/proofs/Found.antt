@@ -1,12 +1,12 @@
 -- What stands in the areas of the first stage.
-use Rattle.std.proofs.Common.{◌≡◌, ℕ, suc, ◌+◌, ◌-◌, ◌<◌, ◌≤◌, List, ◌++◌, length, get_or, take, drop, ℤ, pos, ◌-ℤ◌, sym, refl, ap, ◌∙◌, subst, ap₂, arith}
+use Rattle.std.proofs.Common.{◌≡◌, ℕ, ◌+◌, ◌-◌, List, ◌++◌, length, get_or, take, drop, ℤ, pos, ◌-ℤ◌, sym, ap, ◌∙◌, subst, ap₂, arith}
 use Rattle.std.proofs.lemmas.List.{take_at}
 use Rattle.fields.specs.Numbers.{Numbers, AllBelow}
 use Rattle.polynomials.specs.Series.{poly}
 use Rattle.stages.specs.Syndrome.{syndrome}
 use Rattle.stages.specs.Coefficients.{degree}
 use Rattle.stages.specs.Euclid.{Rows, row, two_rows, rows}
-use Rattle.stages.specs.Basis.{Basis, crossing, basis}
+use Rattle.stages.specs.Basis.{crossing, basis}
 use Rattle.stages.specs.Readings.{Stops}
 use Rattle.stages.proofs.Syndrome.{syndrome_length, syndrome_below, syndrome_top}
 use Rattle.stages.proofs.Euclid.{rows_stop}

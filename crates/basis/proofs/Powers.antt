@@ -1,8 +1,8 @@
 -- The turns of the loops of the syndrome.
-use Rattle.std.proofs.Common.{◌≡◌, ℕ, zero, suc, ◌+◌, ◌-◌, ◌<◌, ◌≤◌, Bool, true, false, cond, eqb, List, [], ◌∷◌, ◌++◌, map, length, get_or, take, drop, set, replicate, sym, refl, ap, ◌∙◌, subst, ap₂, add-one, arith, eq-eqb, ne_eqb}
+use Rattle.std.proofs.Common.{◌≡◌, ℕ, zero, suc, ◌+◌, ◌-◌, ◌<◌, Bool, cond, eqb, List, [], ◌∷◌, ◌++◌, map, length, get_or, take, drop, replicate, sym, refl, ap, ◌∙◌, ap₂, add-one, arith, eq-eqb, ne_eqb}
 use Rattle.std.specs.List.{range_with_len}
 use Rattle.std.proofs.lemmas.List.{ext_get_or, take_at, drop_at}
-use Rattle.fields.specs.Numbers.{Numbers, AllBelow, pos}
+use Rattle.fields.specs.Numbers.{Numbers}
 use Rattle.polynomials.proofs.Writes.{Written}
 use Rattle.stages.specs.Coefficients.{listed, sum, product, power}
 use Rattle.stages.specs.Syndrome.{dual, coefficient, syndrome}

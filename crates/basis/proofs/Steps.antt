@@ -4,7 +4,7 @@ use native.Mathlib.Decide.{dec_lt}
 use borrow.Author.Tests.{not-true}
 use Rattle.std.proofs.lemmas.List.{ext_get_or, get_or-take, length-take}
 use Rattle.algebra.specs.Division.{size as size_of}
-use Rattle.fields.specs.Numbers.{Numbers, AllBelow, Element, elem, field_of, elem_inj}
+use Rattle.fields.specs.Numbers.{Numbers, AllBelow, Element, field_of, elem_inj}
 use Rattle.polynomials.specs.Series.{poly, Reads, plus_shifted}
 use Rattle.polynomials.proofs.Readings.{all_at}
 use Rattle.polynomials.proofs.Shapes.{up, up_at, up_under, elem_shifted_at}

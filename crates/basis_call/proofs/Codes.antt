@@ -1,5 +1,5 @@
 -- What the call asks of its parts, and what they answer.
-use Rattle.std.proofs.Common.{◌≡◌, ℕ, suc, ◌+◌, ◌-◌, ◌*◌, ◌<◌, ◌≤◌, Bool, true, false, ltb, List, [], ◌∷◌, ◌++◌, length, get_or, take, drop, Some, None, Option, sym, refl, ap, ◌∙◌, subst, ap₂, add-one, arith, le-ltb, lt-ltb}
+use Rattle.std.proofs.Common.{◌≡◌, ℕ, suc, ◌+◌, ◌-◌, ◌*◌, ◌<◌, ◌≤◌, Bool, List, [], ◌∷◌, ◌++◌, length, get_or, take, drop, Some, None, Option, sym, ap, ◌∙◌, subst, ap₂, add-one, arith, le-ltb}
 use Rattle.std.proofs.lemmas.List.{length-take-le, get_or-take, length-append}
 use Rattle.faults.specs.declared.ListingFault.{ListingFault}
 use Rattle.faults.specs.declared.ListingFault.TheVariants.{ResultArea}
@@ -8,17 +8,16 @@ use Rattle.codes.specs.First.{or_else, when}
 use Rattle.codes.specs.Codewords.{area_after}
 use Rattle.codes.specs.Valid.{NonZero}
 use Rattle.codes.specs.declared.Code.{Code}
-use Rattle.collections.specs.Book.{Book, opened}
-use Rattle.collections.specs.Standing.{page, standing, given_of, Over, Sound}
+use Rattle.collections.specs.Standing.{page, standing, Over, Sound}
 use Rattle.collections.specs.declared.Kept.{Kept}
 use Rattle.collections.specs.declared.Opened.{Opened}
 use Rattle.collections.specs.declared.State.{State}
 use Rattle.collections.specs.declared.State.TheVariants.{Open}
-use Rattle.gathering.specs.Shares.{numbers, gathering_fault, Gathered}
+use Rattle.gathering.specs.Shares.{numbers, gathering_fault}
 use Rattle.stages.specs.Coefficients.{listed}
 use Rattle.stages.specs.Syndrome.{coefficient, syndrome}
 use Rattle.stages.proofs.Coefficients.{listed_length}
-use Rattle.stages.specs.Basis.{Basis, basis, runs, w1, w2}
+use Rattle.stages.specs.Basis.{Basis, basis, runs}
 use Rattle.basis.specs.Found.{Finds, laid}
 use Rattle.basis.specs.declared.Basis.{Basis as Found}
 use Rattle.basis_call.specs.Calls.{area_fault, basis_fault, basis_of, radius_of, Weighs}

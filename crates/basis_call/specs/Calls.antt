@@ -1,5 +1,5 @@
 -- The basis call on a book: which check refuses first, and the basis and the weights that an accepted call answers.
-use Rattle.std.specs.Prelude.{◌≡◌, ℕ, ◌+◌, ◌-◌, ◌*◌, List, [], length, Some, None, Option, nat_lt}
+use Rattle.std.specs.Prelude.{◌≡◌, ℕ, ◌+◌, ◌-◌, ◌*◌, List, [], length, Some, Option, nat_lt}
 use Rattle.faults.specs.declared.ListingFault.{ListingFault}
 use Rattle.faults.specs.declared.ListingFault.TheVariants.{Collection, ResultArea}
 use Rattle.faults.specs.declared.CollectionFault.TheVariants.{Blank}

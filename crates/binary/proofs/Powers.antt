@@ -6,10 +6,10 @@ use mathlib.Core.Path.{◌≡◌, refl, sym, ◌∙◌, ap, ap₂, subst}
 use mathlib.Core.Logic.{◌≢◌, ◌⊎◌, inl, inr}
 use mathlib.Core.List.{List, [], ◌∷◌}
 use mathlib.Core.Bool.{Bool, true, false}
-use Prim.Native.Nat.{ℕ, zero, suc, ◌+◌, ◌-◌, ◌*◌, ◌/◌, ◌%◌, ◌^◌, ◌≤◌, ◌<◌}
+use Prim.Native.Nat.{ℕ, zero, suc, ◌+◌, ◌-◌, ◌*◌, ◌/◌, ◌%◌, ◌^◌, ◌<◌}
 use native.Mathlib.Decide.{ℕ_discrete, dec_lt}
 use native.Mathlib.Omega.{arith}
-use native.Mathlib.Nat.{add_comm, zero-mul, one-mul, mod-lt, mod-add-div, div-eq_of_lt, pow-suc, mul-le-mul_right, mul-div_cancel, div-eq_of_lt-le}
+use native.Mathlib.Nat.{add_comm, zero-mul, one-mul, mod-lt, mod-add-div, div-eq_of_lt, pow-suc, mul-div_cancel, div-eq_of_lt-le}
 use lib.Dec.{T, eqb, eqb→eq, eqb_refl}
 use lib.ListN.{length, get_or}
 use lib.Pow.{pow_pos, pow-lt, pow-add}

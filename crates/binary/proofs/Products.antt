@@ -4,13 +4,13 @@ use mathlib.Core.Path.{◌≡◌, refl, sym, ◌∙◌, ap, ap₂, subst}
 use mathlib.Core.Logic.{◌≢◌}
 use Prim.Native.Nat.{ℕ, zero, suc, ◌+◌, ◌-◌, ◌*◌, ◌/◌, ◌%◌, ◌^◌, ◌≤◌, ◌<◌}
 use native.Mathlib.Omega.{arith}
-use native.Mathlib.Nat.{add-zero, add-suc, suc-add, mul-one, mul_assoc, zero-mul, one-mul, mul-div-mul_right, div-eq_of_lt, mod-lt, pow-suc}
+use native.Mathlib.Nat.{add-zero, add-suc, mul-one, mul_assoc, zero-mul, mul-div-mul_right, div-eq_of_lt, pow-suc}
 use lib.Dec.{lit<}
 use lib.Pow.{pow_pos, pow_mono}
 use lib.Bits.{bit_xor, xor_comm, xor_zero_r, xor_lt, xor_shifted}
 use Rattle.binary.specs.Binary.{carryless, reduced, product, power, inverse}
 use Rattle.binary.proofs.Doubling.{xor_swap, bit_of_xor, twice_xor, double, doubles, double_low, doubles_add}
-use Rattle.binary.proofs.Powers.{Primitive, log, times, log_lt, one_lt, turns, times_doubles, times_lt, times_comm, times_assoc, times_one, times_xor, times_zero, times_double, times_bit, opposite, opposite_is, opposite_lt, times_opposite}
+use Rattle.binary.proofs.Powers.{Primitive, log, times, log_lt, one_lt, turns, times_doubles, times_lt, times_comm, times_assoc, times_one, times_xor, times_double, times_bit, opposite, opposite_is, times_opposite}
 
 module _ (m red : ℕ) where
   reduced_xor : (k a b : ℕ) → reduced m red k (bit_xor a b) ≡ bit_xor (reduced m red k a) (reduced m red k b)

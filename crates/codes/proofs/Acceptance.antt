@@ -1,10 +1,10 @@
 -- The computed acceptance of a setting is that of the decoder's theory.
-use Rattle.std.proofs.Common.{◌≡◌, ℕ, zero, suc, ◌+◌, ◌-◌, ◌*◌, ◌/◌, ◌<◌, ◌≤◌, Bool, true, false, cond, ◌&&◌, ◌||◌, ltb, leb, ◌⊎◌, Decides, sym, refl, ap, ◌∙◌, inl, inr, mul-le-mul, add-one, arith, w32, Fits}
+use Rattle.std.proofs.Common.{◌≡◌, ℕ, zero, suc, ◌+◌, ◌-◌, ◌*◌, ◌<◌, ◌≤◌, leb, ◌⊎◌, Decides, inl, inr, mul-le-mul, arith, w32, Fits}
 use native.Mathlib.Decide.{dec_lt}
 use Rattle.std.proofs.lemmas.Bool.Decides.{nat_tests, Decides-and, Decides-or, Decides-ltb, Decides-like}
 use Rattle.decoding.specs.Setting.{minimum_distance, Reach, Accepted}
 use Rattle.decoding.proofs.Setting.{below_distance, enough_left, multiplicity_below}
-use Rattle.codes.specs.Settings.{conditions, reaches, workable, accepts, Consequences}
+use Rattle.codes.specs.Settings.{conditions, reaches, accepts, Consequences}
 
 -- the sum in the rule fits 32 bits for any bytes
 pub sum_fits : (n s l x : ℕ) → n < 256 → s < 256 → l < 256 → x < 512 → Fits w32 (n * (s * (s + 1)) + l * (l + 1) * x)

@@ -1,12 +1,11 @@
 -- An opening is accepted exactly when its code is valid and its setting accepted.
-use Rattle.std.proofs.Common.{◌≡◌, ℕ, zero, suc, ◌+◌, ◌<◌, ◌≤◌, Bool, true, false, not, ◌&&◌, ◌||◌, eqb, ltb, leb, List, length, get_or, take, is_some, Some, None, Option, sym, refl, ap, ◌∙◌, arith}
+use Rattle.std.proofs.Common.{◌≡◌, ℕ, zero, suc, ◌+◌, ◌<◌, ◌≤◌, Bool, false, not, ◌||◌, eqb, ltb, leb, List, length, get_or, is_some, None, Option, sym, refl, ap, ◌∙◌, arith}
 use Rattle.std.proofs.lemmas.List.{take_all}
 use Rattle.std.proofs.lemmas.Bool.Decides.{nat_tests}
 use Rattle.std.proofs.lemmas.Bool.{ne_eqb, not_from_true}
 use Rattle.faults.specs.declared.CodeFault.TheVariants.{Point, RepeatedPoint, Multiplier}
-use Rattle.decoding.specs.Setting.{Accepted}
 use Rattle.codes.specs.First.{or_else, when, mapped, first_of, first_below}
-use Rattle.codes.specs.Valid.{Places, Dimension, NonZero, Distinct, Valid}
+use Rattle.codes.specs.Valid.{Places, Dimension, NonZero, Distinct}
 use Rattle.codes.specs.Settings.{accepts}
 use Rattle.codes.specs.Opening.{Given, unfit, repeats, first_unfit, first_repeat, count_fault, threshold_fault, place_fault, setting_fault, first_fault}
 use Rattle.codes.specs.Exact.{Fit, OpensExactly}

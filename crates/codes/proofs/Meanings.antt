@@ -1,6 +1,5 @@
 -- A valid code is a code of the decoder's theory, and the codewords of its messages are the theory's.
-use Rattle.std.proofs.Common.{◌≡◌, ℕ, suc, ◌+◌, ◌-◌, ◌<◌, ◌≤◌, List, [], ◌∷◌, map, length, get_or, sym, refl, ap, ◌∙◌, ap₂, arith}
-use Rattle.std.specs.List.{range_with_len}
+use Rattle.std.proofs.Common.{◌≡◌, ℕ, suc, ◌-◌, ◌<◌, List, [], ◌∷◌, length, get_or, refl, ap, ◌∙◌, arith}
 use Rattle.std.proofs.lemmas.List.FromFn.{get_or-map-range_with_len}
 use Rattle.algebra.specs.Poly.{ev}
 use Rattle.fields.specs.Numbers.{Numbers, AllBelow, Element, elem, elem_add, elem_mul, elem_inj, pos, plus, times, ring_of, field_of}

@@ -1,13 +1,12 @@
 -- What the checks of opening leave, where none applies: a valid code and an accepted setting.
-use Rattle.std.proofs.Common.{◌≡◌, ℕ, ◌<◌, ◌≤◌, Bool, true, false, not, ◌&&◌, ◌||◌, eqb, ltb, leb, List, length, get_or, take, is_some, Some, None, Option, sym, refl, ap, ◌∙◌, arith}
+use Rattle.std.proofs.Common.{◌≡◌, ℕ, ◌<◌, false, not, ◌||◌, eqb, ltb, leb, List, length, get_or, take, None, Option, sym, ap, ◌∙◌, arith}
 use Rattle.std.proofs.lemmas.Bool.Decides.{nat_tests}
 use Rattle.std.proofs.lemmas.Bool.{not-false, eqb-false}
 use Rattle.std.proofs.lemmas.List.{get_or-take}
 use Rattle.decoding.specs.Setting.{Accepted}
 use Rattle.faults.specs.declared.CodeFault.{CodeFault}
 use Rattle.codes.specs.Valid.{Places, Dimension, NonZero, Distinct}
-use Rattle.codes.specs.First.{or_else, when, first_below}
-use Rattle.codes.specs.Settings.{accepts}
+use Rattle.codes.specs.First.{or_else}
 use Rattle.codes.specs.Opening.{Given, unfit, repeats, first_unfit, first_repeat, count_fault, threshold_fault, place_fault, setting_fault, first_fault}
 use Rattle.codes.proofs.Acceptance.{exact}
 use Rattle.codes.proofs.Firsts.{when_none, or_else_none, mapped_none, below_none, none_of}

@@ -1,8 +1,8 @@
 -- The codeword of a message over a field of numbers, and issuing: what refuses it, and what the result area holds after it. Then what the codeword means: it is the
 -- word of the message in the decoder's theory.
-use Rattle.std.specs.Prelude.{◌≡◌, ℕ, ◌-◌, ◌<◌, Bool, not, List, [], ◌∷◌, ◌++◌, map, length, take, drop, Some, None, Option, ◌==◌, nat_le, nat_lt, slice_index}
+use Rattle.std.specs.Prelude.{◌≡◌, ℕ, ◌-◌, ◌<◌, not, List, [], ◌∷◌, ◌++◌, map, length, take, drop, Some, None, Option, ◌==◌, nat_le, nat_lt, slice_index}
 use Rattle.std.specs.List.{range_with_len}
-use Rattle.fields.specs.Numbers.{Numbers, AllBelow, Element, elem, field_of}
+use Rattle.fields.specs.Numbers.{Numbers, AllBelow, elem, field_of}
 use Rattle.decoding.specs.Code.{Code, codeword as codewordOf}
 use Rattle.faults.specs.declared.ListingFault.{ListingFault}
 use Rattle.faults.specs.declared.ListingFault.TheVariants.{MessageLength, NotAnElement, ResultArea}

@@ -1,5 +1,5 @@
 -- Opening: what it is given, and the first of its checks that applies. Each of the checks of the places goes over all of them before the next begins.
-use Rattle.std.specs.Prelude.{◌≡◌, ℕ, Bool, not, ◌&&◌, ◌||◌, List, length, take, is_some, Some, None, Ok, Err, Option, Result, ◌==◌, nat_eq, nat_le, nat_lt, slice_index}
+use Rattle.std.specs.Prelude.{◌≡◌, ℕ, Bool, not, ◌||◌, List, length, take, is_some, Some, None, Ok, Err, Option, Result, ◌==◌, nat_eq, nat_le, nat_lt, slice_index}
 use Rattle.faults.specs.declared.CodeFault.{CodeFault}
 use Rattle.faults.specs.declared.CodeFault.TheVariants.{PlaceCount, Threshold, Point, RepeatedPoint, Multiplier, Setting as NotAccepted}
 use Rattle.codes.specs.declared.Setting.{Setting}

@@ -1,6 +1,6 @@
 -- A valid code over a field of q elements: n places, each with a point and a multiplier, and the threshold k. The points and multipliers are the first n
 -- numbers of two lists.
-use Rattle.std.specs.Prelude.{◌≡◌, ℕ, ◌<◌, ◌≤◌, List, ◌≢◌, slice_index}
+use Rattle.std.specs.Prelude.{ℕ, ◌<◌, ◌≤◌, List, ◌≢◌, slice_index}
 
 -- from 2 to 32 places, and fewer than there are elements
 abbrev pub Places : ℕ → ℕ → Type 0

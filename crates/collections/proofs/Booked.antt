@@ -1,5 +1,5 @@
 -- What each way through a call on a collection is to the book.
-use Rattle.std.proofs.Common.{◌≡◌, ℕ, zero, suc, ◌<◌, ◌≤◌, Bool, true, false, not, eqb, leb, List, [], ◌∷◌, map, length, get_or, take, set, replicate, Some, None, Ok, Err, Option, sym, refl, ap, ◌∙◌, subst, arith, length-take, eq-eqb, leb-true}
+use Rattle.std.proofs.Common.{◌≡◌, ℕ, zero, suc, ◌<◌, ◌≤◌, Bool, true, false, not, leb, List, [], ◌∷◌, map, length, get_or, take, set, replicate, Some, None, Ok, Option, sym, refl, ap, ◌∙◌, arith, length-take, eq-eqb, leb-true}
 use lib.Seq.{set-get_or}
 use borrow.Author.Tests.{lt-leb}
 use Rattle.std.proofs.lemmas.List.{get_or-take, get_or_past, length-map, take-replicate}
@@ -14,7 +14,7 @@ use Rattle.collections.specs.declared.Opened.{Opened}
 use Rattle.collections.specs.declared.State.{State}
 use Rattle.collections.specs.declared.State.TheVariants.{Blank, Open}
 use Rattle.collections.specs.declared.Kept.{Kept}
-use Rattle.collections.specs.Book.{Book, unopened, opened, Act, opening, entering, withdrawing, reading, blank_check, of_code, place_check, place_in, number_check, other_check, nothing_check, check, writes, putting, accepts, said_by, left_by, Said, done, Right}
+use Rattle.collections.specs.Book.{Book, unopened, opened, Act, opening, entering, withdrawing, blank_check, of_code, place_check, place_in, number_check, other_check, nothing_check, check, writes, putting, accepts, said_by, left_by, done, Right}
 use Rattle.collections.specs.Standing.{given_of, page, standing, share, shares, TellsPlace}
 
 -- an accepted call

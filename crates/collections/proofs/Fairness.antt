@@ -1,14 +1,14 @@
 -- Every accepted call leaves a book that calls lead to.
-use Rattle.std.proofs.Common.{◌≡◌, ℕ, zero, suc, ◌<◌, Bool, true, false, leb, List, [], ◌∷◌, length, set, replicate, Some, None, Option, sym, refl, ap, ◌∙◌, subst, arith, length-set, leb-false}
+use Rattle.std.proofs.Common.{◌≡◌, ℕ, zero, suc, ◌<◌, Bool, true, false, leb, List, [], ◌∷◌, length, set, replicate, Some, None, Option, sym, refl, ◌∙◌, subst, arith, length-set, leb-false}
 use lib.ListN.{length-replicate}
 use Rattle.faults.specs.declared.CodeFault.{CodeFault}
 use Rattle.faults.specs.declared.CollectionFault.{CollectionFault}
-use Rattle.faults.specs.declared.CollectionFault.TheVariants.{NoSuchPlace, NotAnElement, AlreadyOpen}
+use Rattle.faults.specs.declared.CollectionFault.TheVariants.{NotAnElement, AlreadyOpen}
 use Rattle.codes.specs.First.{or_else, when}
 use Rattle.codes.specs.Opening.{Given, first_fault}
 use Rattle.collections.specs.declared.Place.{Place}
 use Rattle.collections.specs.declared.Place.TheVariants.{Empty, Filled}
-use Rattle.collections.specs.Book.{Book, unopened, opened, Act, opening, entering, withdrawing, reading, blank_check, of_code, place_check, place_in, number_check, other_check, check, writes, accepts, said_by, left_by, Said, Right, Fits, AllFit, FairPage, Fair}
+use Rattle.collections.specs.Book.{Book, unopened, opened, Act, opening, entering, withdrawing, reading, blank_check, of_code, place_check, place_in, number_check, other_check, check, writes, left_by, Said, Right, Fits, AllFit, FairPage, Fair}
 
 pub no_fault : {E : Type 0} (f : E) → Some f ≡ None → ⊥
 no_fault f e = let z : ◌≡◌ {A = ℕ} 0 1 = cc in omega arith

@@ -1,5 +1,5 @@
 -- Issuing on an open collection is issuing for its code.
-use Rattle.std.proofs.Common.{◌≡◌, ℕ, List, length, take, sym, refl, ap, ◌∙◌, arith, length-take}
+use Rattle.std.proofs.Common.{◌≡◌, ℕ, List, length, take, sym, ap, ◌∙◌, arith, length-take}
 use Rattle.fields.specs.Numbers.{Numbers}
 use Rattle.codes.specs.Codewords.{codeword_of, issue_fault}
 use Rattle.collections.specs.declared.Opened.{Opened}

@@ -23,7 +23,7 @@ use Rattle.algebra.proofs.FieldLaws.{inv_nonzero, neg_nonzero}
 use Rattle.algebra.proofs.PolySums.{times_below, times_at}
 use Rattle.algebra.proofs.Degrees.{degree_of}
 use Rattle.algebra.proofs.Rows.{f₁, f₂}
-use Rattle.decoding.specs.Code.{errors, Code, codeword, syndrome, ε, Λ, Ω}
+use Rattle.decoding.specs.Code.{errors, Code, syndrome, ε, Λ, Ω}
 use Rattle.decoding.specs.KeyEquation.{Key, IsPair}
 use Rattle.decoding.specs.Rational.{Root}
 use Rattle.decoding.specs.Words.{error, Near}

@@ -10,7 +10,7 @@ use Rattle.digits.specs.declared.Shape.{Shape}
 use Rattle.digits.proofs.Bounds.{fits_tail}
 use Rattle.algebra.specs.Poly.{conv, const, padd, scale, pzero, cons, mono, Below}
 use Rattle.algebra.specs.PolyRing.{Poly, const_conv, conv_assoc}
-use Rattle.fields.specs.Numbers.{Numbers, AllBelow, Element, elem, pos, ring_of}
+use Rattle.fields.specs.Numbers.{Numbers, AllBelow, Element, elem, ring_of}
 use Rattle.polynomials.specs.Series.{poly, Reads, plus_shifted}
 use Rattle.polynomials.proofs.Writes.{Written, written_is, written_turn_from}
 use Rattle.polynomials.proofs.Readings.{all_at, past, poly_is, poly_at, multiple_zero}

@@ -1,9 +1,9 @@
 -- How many coefficients the runs have while y moves on by e x ^ t.
-use Rattle.std.proofs.Common.{◌≡◌, ℕ, zero, suc, ◌+◌, ◌-◌, ◌*◌, ◌<◌, ◌≤◌, [], ◌∷◌, sym, refl, ap, ◌∙◌, subst, ap₂, suc-mul, zero-mul, arith}
+use Rattle.std.proofs.Common.{◌≡◌, ℕ, zero, suc, ◌-◌, ◌*◌, ◌<◌, ◌≤◌, [], ◌∷◌, sym, refl, ap, ◌∙◌, subst, ap₂, suc-mul, zero-mul, arith}
 use mathlib.Core.Path.{fun_ext}
 use native.Mathlib.Decide.{ℕ_discrete, dec_lt}
 use Rattle.algebra.specs.Ring.{Ring}
-use Rattle.algebra.specs.Poly.{conv, padd, pzero, const, mono, tail, cons, ev, Below}
+use Rattle.algebra.specs.Poly.{conv, padd, mono, tail, cons, ev, Below}
 use Rattle.algebra.specs.PolyRing.{Poly}
 use Rattle.algebra.specs.Sums.{sum}
 use Rattle.algebra.specs.Taylor.{tay, taylor}

@@ -1,18 +1,17 @@
 -- The columns of the layers, by the first run and the rest.
-use Rattle.std.proofs.Common.{◌≡◌, ℕ, zero, suc, ◌+◌, ◌-◌, ◌*◌, ◌<◌, ◌≤◌, ◌≢◌, ◌⊎◌, List, [], ◌∷◌, ◌++◌, length, get_or, take, drop, set, replicate, sym, refl, ap, ◌∙◌, subst, ap₂, inl, inr, suc-mul, mul-le-mul_left, zero-mul, arith, length-append, length-drop}
+use Rattle.std.proofs.Common.{◌≡◌, ℕ, zero, suc, ◌+◌, ◌-◌, ◌*◌, ◌<◌, ◌≤◌, ◌≢◌, List, [], ◌∷◌, ◌++◌, length, get_or, take, drop, set, replicate, sym, refl, ap, ◌∙◌, subst, suc-mul, mul-le-mul_left, zero-mul, arith, length-append, length-drop}
 use mathlib.Core.Path.{fun_ext}
 use native.Mathlib.Decide.{dec_lt}
 use Rattle.algebra.specs.Ring.{Ring}
-use Rattle.algebra.specs.Field.{Field}
 use Rattle.algebra.specs.Poly.{up, tail, cons, pzero, at, ev, Below, Order}
 use Rattle.algebra.specs.PolyRing.{Poly}
 use Rattle.algebra.specs.RingLaws as L
-use Rattle.algebra.proofs.Eval.{ev_zero, ev_more, below_zero}
+use Rattle.algebra.proofs.Eval.{ev_more, below_zero}
 use Rattle.algebra.specs.Division.{size}
 use Rattle.algebra.proofs.Roots.{id_hom}
 use Rattle.algebra.proofs.Degrees.{size_below, size_lead}
 use Rattle.algebra.proofs.Monomials.{up_order, up_at}
-use Rattle.fields.specs.Numbers.{Numbers, AllBelow, Element, elem, pos, ring_of, field_of}
+use Rattle.fields.specs.Numbers.{Numbers, AllBelow, Element, elem, ring_of, field_of}
 use Rattle.polynomials.specs.Series.{poly, Reads}
 use Rattle.polynomials.proofs.Readings.{poly_at, poly_past, all_at, past}
 use borrow.Rule.Slice.PartMut.{put_mid}
@@ -20,7 +19,7 @@ use Rattle.std.proofs.lemmas.List.{get_or-take, get_or-drop, get_or_append_left,
 use Rattle.digits.specs.declared.Shape.{Shape}
 use Rattle.digits.specs.Runs.{runs, Fits, Held}
 use Rattle.digits.proofs.Arrays.{runs_below}
-use Rattle.digits.specs.Digits.{column, Allowed, Decides}
+use Rattle.digits.specs.Digits.{column, Decides}
 
 module _ (R : Ring) where
   open R use {El, 𝟘}

@@ -1,13 +1,11 @@
 -- A walk from the visits of its parts.
-use Rattle.std.proofs.Common.{◌≡◌, ℕ, zero, suc, ◌+◌, ◌-◌, ◌<◌, ◌≤◌, ◌≢◌, ◌⊎◌, List, [], ◌∷◌, ◌++◌, length, get_or, take, drop, set, sym, refl, ap, ◌∙◌, subst, ap₂, inl, inr, add-one, arith}
+use Rattle.std.proofs.Common.{◌≡◌, ℕ, suc, ◌+◌, ◌<◌, ◌≤◌, ◌≢◌, ◌⊎◌, List, [], ◌∷◌, ◌++◌, length, get_or, take, drop, sym, refl, ap, ◌∙◌, subst, ap₂, inl, inr, add-one, arith}
 use native.Mathlib.Decide.{ℕ_discrete}
 use Rattle.std.proofs.lemmas.List.{take_all, take-take, drop_all, drop_more, take_more, take_at, get_or-take, get_or_at}
-use Rattle.algebra.specs.Ring.{Ring}
-use Rattle.algebra.specs.Poly.{at, padd, pzero, conv, const, Below}
+use Rattle.algebra.specs.Poly.{at}
 use Rattle.algebra.specs.PolyRing.{Poly}
 use Rattle.algebra.specs.Taylor.{taylor}
-use Rattle.fields.specs.Numbers.{Numbers, AllBelow, Element, elem, ring_of}
-use Rattle.polynomials.specs.Series.{poly}
+use Rattle.fields.specs.Numbers.{Numbers, Element, elem, ring_of}
 use Rattle.rolls.specs.Order.{Has}
 use Rattle.digits.specs.Runs.{term}
 use Rattle.digits.specs.Digits.{Allowed, Decides, Among}

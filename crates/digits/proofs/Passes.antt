@@ -1,11 +1,11 @@
 -- What a pass and all passes leave in an array, from what they leave in the rest of it.
-use Rattle.std.proofs.Common.{◌≡◌, ℕ, zero, suc, ◌+◌, ◌-◌, ◌*◌, ◌<◌, ◌≤◌, List, [], ◌∷◌, ◌++◌, length, take, drop, sym, refl, ap, ◌∙◌, subst, ap₂, arith, length-append, length-drop}
+use Rattle.std.proofs.Common.{◌≡◌, ℕ, suc, ◌+◌, ◌-◌, ◌<◌, ◌≤◌, List, [], ◌∷◌, length, take, drop, sym, ap, ◌∙◌, subst, ap₂, arith, length-append, length-drop}
 use mathlib.Core.Path.{fun_ext}
 use borrow.Rule.Slice.PartMut.{put_mid}
 use Rattle.std.proofs.lemmas.List.{take-append-drop, length-take-le}
 use Rattle.algebra.specs.Ring.{Ring}
 use native.Mathlib.Decide.{dec_lt}
-use Rattle.algebra.specs.Poly.{conv, padd, pzero, mono, tail, cons, Below}
+use Rattle.algebra.specs.Poly.{conv, padd, pzero, mono, tail, cons}
 use Rattle.algebra.specs.Solve.{ring}
 use Rattle.algebra.specs.PolyForms.{forms}
 use Rattle.algebra.proofs.Taylor.{taylor_add}
@@ -15,8 +15,8 @@ use Rattle.algebra.proofs.Sweep.{sweep, taylor_sweep}
 use Rattle.fields.specs.Numbers.{Numbers, AllBelow, Element, elem, ring_of, elem_neg}
 use Rattle.polynomials.specs.Series.{poly, Reads, plus_shifted}
 use Rattle.digits.specs.declared.Shape.{Shape}
-use Rattle.digits.specs.Runs.{run, runs, term, Fits, Held}
-use Rattle.digits.proofs.Bounds.{sweep_none, sweep_more, sweep_below, taylor_one, taylor_none, fits_sweep, fits_taylor}
+use Rattle.digits.specs.Runs.{runs, term, Fits, Held}
+use Rattle.digits.proofs.Bounds.{sweep_none, sweep_more, taylor_one, taylor_none, fits_sweep, fits_taylor}
 use Rattle.digits.proofs.Arrays.{all_take, all_join, runs_cons, runs_below, poly_cut, shifted_term, fits_held, rest_of, held_rest, deep_one, wide_one, lent_take, lent_drop}
 
 module _ (F : Numbers) (s : Shape) (e t : ℕ) where

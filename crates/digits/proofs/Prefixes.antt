@@ -1,20 +1,17 @@
 -- The series to which a walk comes, from the first digit on, are the prefixes that the theory visits.
-use Rattle.std.proofs.Common.{◌≡◌, ℕ, zero, suc, ◌+◌, ◌-◌, ◌<◌, ◌≤◌, List, [], ◌∷◌, ◌++◌, length, take, drop, sym, refl, ap, ◌∙◌, subst, ap₂, arith, length-append}
+use Rattle.std.proofs.Common.{◌≡◌, ℕ, zero, suc, ◌+◌, ◌<◌, List, [], ◌∷◌, ◌++◌, length, sym, refl, ap, ◌∙◌, subst, ap₂, arith, length-append}
 use mathlib.Core.Path.{fun_ext}
-use native.Mathlib.Decide.{dec_lt}
-use Rattle.std.proofs.lemmas.List.{take_all}
 use Rattle.algebra.specs.Ring.{Ring}
-use Rattle.algebra.specs.Poly.{conv, padd, pzero, const, mono, up, cons, Below}
-use Rattle.algebra.specs.PolyRing.{Poly, padd_assoc, padd_comm, padd_zero, const_conv, conv_comm}
+use Rattle.algebra.specs.Poly.{padd, pzero, const, mono, up, cons, Below}
+use Rattle.algebra.specs.PolyRing.{Poly, padd_assoc, padd_comm, padd_zero, const_conv}
 use Rattle.algebra.specs.Taylor.{taylor}
 use Rattle.algebra.specs.RingLaws as L
 use Rattle.algebra.proofs.Taylor.{taylor_add}
 use Rattle.algebra.proofs.Monomials.{mono_up}
 use Rattle.decoding.specs.Walk.{Visited}
 use Rattle.decoding.specs.Walk.Visited.{start, further}
-use Rattle.fields.specs.Numbers.{Numbers, AllBelow, Element, elem, elem_value, ring_of}
+use Rattle.fields.specs.Numbers.{Numbers, Element, elem, elem_value, ring_of}
 use Rattle.polynomials.specs.Series.{poly}
-use Rattle.polynomials.proofs.Readings.{poly_at}
 use Rattle.digits.specs.Runs.{term}
 use Rattle.digits.specs.Digits.{Allowed}
 use Rattle.digits.specs.Walks.{Steps, Ends}

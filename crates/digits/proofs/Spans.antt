@@ -1,7 +1,7 @@
 -- Where the roots of a constant and of a linear polynomial are.
-use Rattle.std.proofs.Common.{◌≡◌, ℕ, zero, suc, ◌+◌, ◌-◌, ◌<◌, ◌≤◌, ◌≢◌, List, [], ◌∷◌, length, get_or, sym, refl, ap, ◌∙◌, subst, ap₂, arith}
+use Rattle.std.proofs.Common.{◌≡◌, ℕ, ◌+◌, ◌<◌, ◌≤◌, ◌≢◌, List, [], ◌∷◌, length, get_or, sym, ap, ◌∙◌, subst, ap₂, arith}
 use Rattle.algebra.specs.Field.{Field}
-use Rattle.algebra.specs.Poly.{at, ev, tail, Below}
+use Rattle.algebra.specs.Poly.{at, ev, Below}
 use Rattle.algebra.specs.Division.{size}
 use Rattle.algebra.specs.RingLaws as L
 use Rattle.algebra.specs.Solve.{ring}
@@ -9,7 +9,7 @@ use Rattle.algebra.specs.PolyForms.{forms}
 use Rattle.algebra.proofs.Eval.{ev_more}
 use Rattle.algebra.proofs.Roots.{id_hom}
 use Rattle.algebra.proofs.Degrees.{size_below, size_lead}
-use Rattle.fields.specs.Numbers.{Numbers, AllBelow, Element, elem, pos, plus, minus, times, over, ring_of, field_of, elem_add, elem_mul, elem_neg, elem_inv, elem_inj}
+use Rattle.fields.specs.Numbers.{Numbers, AllBelow, elem, minus, times, over, ring_of, field_of, elem_mul, elem_neg, elem_inv, elem_inj}
 use Rattle.polynomials.specs.Series.{poly}
 use Rattle.polynomials.proofs.Readings.{poly_at, poly_past, all_at}
 use Rattle.digits.specs.Digits.{Among}

@@ -1,8 +1,7 @@
 -- A turn of the walk's loop at a digit that is a root: down, the walk below, and up again.
-use Rattle.std.proofs.Common.{◌≡◌, ℕ, suc, ◌+◌, ◌-◌, ◌<◌, ◌≤◌, ◌≢◌, List, [], ◌∷◌, ◌++◌, length, get_or, take, set, sym, refl, ap, ◌∙◌, subst, ap₂, arith, length-set, get_or-set_other, get_or-set_same}
+use Rattle.std.proofs.Common.{◌≡◌, ℕ, suc, ◌+◌, ◌<◌, ◌≢◌, List, [], ◌∷◌, ◌++◌, length, get_or, take, set, sym, ap, ◌∙◌, subst, arith, length-set, get_or-set_other, get_or-set_same}
 use native.Mathlib.Decide.{ℕ_discrete}
 use Rattle.std.proofs.lemmas.List.{take-take, take-set, take_more_set, length-take-le}
-use Rattle.algebra.specs.Ring.{Ring}
 use Rattle.algebra.specs.Poly.{at}
 use Rattle.algebra.specs.PolyRing.{Poly}
 use Rattle.algebra.specs.Taylor.{taylor}

@@ -3,7 +3,7 @@
 use Rattle.std.specs.Prelude.{◌≡◌, ℕ, zero, suc, ◌+◌, ◌-◌, ◌*◌, ◌≤◌, List, length, take, drop}
 use Rattle.algebra.specs.Ring.{Ring}
 use Rattle.algebra.specs.Poly.{conv, const, mono, Below}
-use Rattle.fields.specs.Numbers.{Numbers, AllBelow, Element, elem, ring_of}
+use Rattle.fields.specs.Numbers.{Numbers, AllBelow, Element, ring_of}
 use Rattle.polynomials.specs.Series.{poly}
 use Rattle.digits.specs.declared.Shape.{Shape}
 

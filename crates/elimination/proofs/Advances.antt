@@ -9,7 +9,7 @@ use Rattle.fields.specs.Numbers.{Numbers, AllBelow, elem, pos, plus, minus, time
 use Rattle.polynomials.specs.Series.{poly}
 use Rattle.polynomials.proofs.Writes.{Written}
 use Rattle.polynomials.proofs.Readings.{all_at, poly_at, mul_zero}
-use Rattle.functionals.specs.Runs.{run, family}
+use Rattle.functionals.specs.Runs.{family}
 use Rattle.functionals.proofs.Runs.{family_at}
 use Rattle.elimination.specs.Rows.{Advanced}
 

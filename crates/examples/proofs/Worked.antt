@@ -1,5 +1,5 @@
 -- The worked cases, by computing.
-use Rattle.std.proofs.Common.{◌≡◌, refl}
+use Rattle.std.proofs.Common.{refl}
 use Rattle.algebra.specs.Sums.{count}
 use Rattle.binary.specs.Binary.{carryless, reduced, product as binary_product}
 use Rattle.codes.specs.Codewords.{value}

@@ -1,5 +1,5 @@
 -- Listing by trying every message: all messages of k numbers below q, and those whose codeword is near the shares.
-use Rattle.std.specs.Prelude.{ℕ, zero, suc, Bool, List, [], ◌∷◌, ◌++◌, map, length, filter, nat_le}
+use Rattle.std.specs.Prelude.{ℕ, zero, suc, List, [], ◌∷◌, ◌++◌, map, length, filter, nat_le}
 use Rattle.std.specs.List.{range_with_len}
 use Rattle.fields.specs.Numbers.{Numbers}
 use Rattle.codes.specs.Codewords.{codeword}

@@ -1,10 +1,9 @@
 -- Powers modulo q by squaring: what one turn of the loop keeps.
 -- In order: powers of a remainder, powers of a square, a turn without and with a factor, and the end.
-use mathlib.Core.Path.{◌≡◌, refl, sym, ◌∙◌, ap, ap₂}
-use Prim.Native.Nat.{ℕ, zero, suc, ◌+◌, ◌*◌, ◌/◌, ◌%◌, ◌^◌, ◌<◌}
+use mathlib.Core.Path.{◌≡◌, sym, ◌∙◌, ap, ap₂}
+use Prim.Native.Nat.{ℕ, zero, suc, ◌*◌, ◌/◌, ◌%◌, ◌^◌, ◌<◌}
 use native.Mathlib.Omega.{arith}
 use native.Mathlib.Nat.{mul_assoc, mul-one, mod-lt, mod-eq_of_lt, pow-suc, pow-zero}
-use lib.Pow.{pow-add}
 use Rattle.algebra.specs.Residue.{mod_mul_mod, mul_mod_mod}
 
 pow_mod : (q x n : ℕ) → (x % q) ^ n % q ≡ x ^ n % q

@@ -1,5 +1,5 @@
 -- The four fields, and some of their products.
-use Rattle.std.specs.Prelude.{◌≡◌, refl, ℕ, ◌<◌}
+use Rattle.std.specs.Prelude.{◌≡◌, refl}
 use Rattle.std.proofs.Common.{lit<}
 use Rattle.binary.proofs.Doubling.{double, doubles}
 use Rattle.binary.proofs.Powers.{Primitive, powers}

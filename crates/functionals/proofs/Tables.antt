@@ -11,7 +11,7 @@ use Rattle.std.proofs.lemmas.Nat.{div-add-mod', mod_below}
 use Rattle.algebra.specs.Taylor.{tay}
 use Rattle.decoding.specs.Multiplicity.{Slope as Point, finite, infinite, slope, expansion}
 use Rattle.functionals.specs.Runs.{run}
-use Rattle.functionals.specs.Tables.{coefficient, Taylor, TaylorTable, WeightTable}
+use Rattle.functionals.specs.Tables.{coefficient, TaylorTable, WeightTable}
 use Rattle.functionals.proofs.Runs.{run_at, run_length, run_below, run_long}
 
 -- what a table has at the place i, if f a m stands in its row a at the place m

@@ -1,5 +1,5 @@
 -- From the places of a basis to the decoding theory.
-use Rattle.std.proofs.Common.{◌≡◌, ℕ, suc, ◌-◌, ◌*◌, ◌<◌, List, length, sym, refl, ap, ◌∙◌, subst, ap₂, arith}
+use Rattle.std.proofs.Common.{◌≡◌, ℕ, suc, ◌*◌, ◌<◌, List, length, sym, refl, ap, ◌∙◌, subst, ap₂, arith}
 use native.Mathlib.Decide.{dec_lt}
 use Rattle.algebra.specs.Poly.{at, Below}
 use Rattle.algebra.proofs.Eval.{ev_more}
@@ -7,7 +7,7 @@ use Rattle.algebra.proofs.Roots.{id_hom}
 use Rattle.fields.specs.Numbers.{Numbers, Element, minus, ring_of, field_of}
 use Rattle.polynomials.specs.Series.{poly}
 use Rattle.polynomials.proofs.Readings.{poly_past}
-use Rattle.decoding.specs.Koetter.{Interpolant, Triangle, homogeneous, value}
+use Rattle.decoding.specs.Koetter.{Interpolant, Triangle, homogeneous}
 use Rattle.decoding.specs.Multiplicity.{Slope, slope, expansion, functional}
 use Rattle.decoding.specs.Pairs.{w₁, w₂, y_at, z_at}
 use Rattle.functionals.specs.Runs.{family}

@@ -1,5 +1,5 @@
 -- The checks of the stage, one after another, and what it writes.
-use Rattle.std.proofs.Common.{◌≡◌, ℕ, suc, ◌-◌, ◌*◌, ◌≤◌, Bool, true, false, cond, ◌||◌, ltb, List, length, take, drop, ℤ, pos, negsuc, Some, None, Err, Option, Result, sym, refl, ap, ◌∙◌, subst, ap₂, arith, ltb-false}
+use Rattle.std.proofs.Common.{◌≡◌, ℕ, suc, ◌*◌, ◌≤◌, Bool, true, false, cond, ◌||◌, ltb, List, length, take, drop, ℤ, pos, negsuc, Some, None, Err, Option, Result, sym, refl, ap, ◌∙◌, subst, ap₂, arith, ltb-false}
 use Rattle.fields.specs.Numbers.{Numbers}
 use Rattle.faults.specs.declared.ListingFault.{ListingFault}
 use Rattle.faults.specs.declared.ListingFault.TheVariants.{NegativeWeight, ResultArea, WorkArea}

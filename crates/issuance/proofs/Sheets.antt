@@ -1,12 +1,10 @@
 -- What a sheet gives to opening, and what is issued by it.
-use Rattle.std.proofs.Common.{◌≡◌, ℕ, ◌<◌, ◌≤◌, min, ltb, List, ◌++◌, map, length, get_or, take, drop, Some, None, Option, sym, refl, ap, ◌∙◌, subst, arith, length-take}
-use Rattle.std.specs.List.{range_with_len}
+use Rattle.std.proofs.Common.{◌≡◌, ℕ, ◌≤◌, ltb, List, length, take, Some, None, Option, sym, refl, ap, ◌∙◌}
 use Rattle.std.proofs.lemmas.List.{take_at}
 use Rattle.std.proofs.lemmas.List.FromFn.{length-map-range_with_len}
 use Rattle.std.proofs.lemmas.Bool.{le-ltb}
 use Rattle.fields.specs.Numbers.{Numbers}
-use Rattle.faults.specs.declared.ListingFault.{ListingFault}
-use Rattle.codes.specs.First.{or_else, when, mapped}
+use Rattle.codes.specs.First.{or_else, mapped}
 use Rattle.codes.specs.Opening.{Given, first_fault, Holds}
 use Rattle.codes.specs.Codewords.{codeword, codeword_of, message_fault, issue_fault, area_after}
 use Rattle.codes.specs.declared.Code.{Code}

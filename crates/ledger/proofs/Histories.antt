@@ -1,5 +1,5 @@
 -- After a run each place of the book is what the latest act about it made of it.
-use Rattle.std.proofs.Common.{◌≡◌, ℕ, zero, suc, ◌<◌, ◌≤◌, Bool, true, false, cond, eqb, leb, List, [], ◌∷◌, ◌++◌, length, get_or, set, replicate, Some, None, Option, sym, refl, ap, ◌∙◌, subst, ⊎_elim, arith, get_or-set_other, get_or-set_same, eq-eqb, ne_eqb, leb-false}
+use Rattle.std.proofs.Common.{◌≡◌, ℕ, zero, suc, ◌<◌, cond, eqb, leb, List, [], ◌∷◌, ◌++◌, length, get_or, set, replicate, Some, None, Option, sym, refl, ap, ◌∙◌, ⊎_elim, get_or-set_other, get_or-set_same, eq-eqb, ne_eqb, leb-false}
 use Rattle.std.proofs.lemmas.Bool.{cases_eq}
 use Rattle.faults.specs.declared.CollectionFault.{CollectionFault}
 use Rattle.faults.specs.declared.CollectionFault.TheVariants.{Blank, NoSuchPlace}
@@ -10,13 +10,13 @@ use Rattle.codes.specs.First.{or_else, when, mapped}
 use Rattle.codes.specs.Opening.{Given, given}
 use Rattle.collections.specs.declared.Place.{Place}
 use Rattle.collections.specs.declared.Place.TheVariants.{Empty, Filled}
-use Rattle.collections.specs.Book.{Book, unopened, opened, Act, opening, entering, withdrawing, reading, place_check, place_in, number_check, other_check, nothing_check, check, writes, accepts, said_by, left_by, Said, done, told, refused, Right}
+use Rattle.collections.specs.Book.{Book, unopened, opened, Act, opening, entering, withdrawing, reading, place_check, place_in, check, writes, accepts, said_by, left_by, Said, done, told}
 use Rattle.collections.proofs.Fairness.{no_fault, neither_left, neither_right, test_failed}
 use Rattle.sheets.specs.Sheet.{sheet_of, header_fault, field_fault}
-use Rattle.transfer.specs.Loading.{acts_of, first_refused, all_written, load_fault, loaded, Loads, said_by as saidLoading, left_by as leftLoading}
+use Rattle.transfer.specs.Loading.{acts_of, first_refused, all_written, load_fault, loaded, said_by as saidLoading, left_by as leftLoading}
 use Rattle.ledger.specs.declared.Call.{Call}
 use Rattle.ledger.specs.declared.Call.TheVariants.{Open, Load, Enter, Withdraw, Read}
-use Rattle.ledger.specs.Law.{Reply, accepted, tells, refuses, plain, with_byte, Acted, LoadedBy, Answered, Runs, stop, go}
+use Rattle.ledger.specs.Law.{Reply, tells, refuses, plain, with_byte, Acted, LoadedBy, Answered, Runs, stop, go}
 use Rattle.ledger.specs.History.{acts_in, is_accepted, history, makes, latest, default, ReadsTell}
 
 -- one act that is accepted

@@ -1,5 +1,5 @@
 -- One call more at the end of a run.
-use Rattle.std.proofs.Common.{◌≡◌, ℕ, ◌+◌, ◌<◌, ◌≤◌, List, [], ◌∷◌, ◌++◌, map, length, get_or, take, set, sym, refl, ap, ◌∙◌, subst}
+use Rattle.std.proofs.Common.{◌≡◌, ℕ, ◌+◌, ◌<◌, List, [], ◌∷◌, ◌++◌, map, length, get_or, take, set, refl, ap}
 use Rattle.std.proofs.lemmas.List.{take_more, take_more_set}
 use Rattle.collections.specs.Book.{Book}
 use Rattle.ledger.specs.declared.Call.{Call}

@@ -1,11 +1,11 @@
 -- What a caller of an insertion wants next: the items are the first of the slots again, and an accepted insertion is `insert`.
-use Rattle.std.proofs.Common.{◌≡◌, ℕ, suc, ◌<◌, ◌≤◌, Bool, true, false, cond, eqb, ltb, List, [], ◌∷◌, ◌++◌, length, take, drop, Ok, Err, Result, sym, refl, ap, ◌∙◌, ⊎_elim, arith, length-append, length-drop, le-ltb, lt-ltb, ne_eqb}
+use Rattle.std.proofs.Common.{◌≡◌, ℕ, suc, ◌<◌, ◌≤◌, Bool, true, false, cond, ltb, List, [], ◌∷◌, length, take, drop, Ok, Err, Result, sym, ap, ◌∙◌, ⊎_elim, arith, length-append, length-drop, le-ltb, lt-ltb, ne_eqb}
 use Rattle.std.proofs.lemmas.List.{take_at, length-take-le}
 use Rattle.std.proofs.lemmas.Bool.{cases_lt}
 use Rattle.rolls.specs.declared.slots.RollFault.{RollFault}
 use Rattle.rolls.specs.declared.slots.RollFault.TheVariants.{Full}
 use Rattle.rolls.specs.Order.{insert}
-use Rattle.rolls.specs.Insertion.{answer, entered, over, Inserted}
+use Rattle.rolls.specs.Insertion.{answer, entered, Inserted}
 
 module _ {X : Type 0} (less : X → X → Bool) (x : X) where
   insert_bound : (ys : List X) → length (insert less x ys) ≤ suc (length ys)

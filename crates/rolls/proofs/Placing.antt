@@ -1,11 +1,11 @@
 -- Where an item goes, and what an insertion there leaves.
-use Rattle.std.proofs.Common.{◌≡◌, ℕ, zero, suc, ◌+◌, ◌-◌, ◌<◌, ◌≤◌, Bool, true, false, cond, eqb, ltb, List, [], ◌∷◌, ◌++◌, length, get_or, take, drop, set, Ok, Err, Result, sym, refl, ap, ◌∙◌, subst, le_of_suc-le-suc, not-suc-le-zero, arith, length-drop, length-take, le-ltb, lt-ltb, eq-eqb, ne_eqb}
+use Rattle.std.proofs.Common.{◌≡◌, ℕ, suc, ◌+◌, ◌-◌, ◌<◌, ◌≤◌, Bool, true, false, cond, eqb, ltb, List, [], ◌∷◌, ◌++◌, length, get_or, take, drop, set, Ok, Err, Result, sym, refl, ap, ◌∙◌, subst, le_of_suc-le-suc, not-suc-le-zero, arith, length-drop, length-take, le-ltb, lt-ltb, eq-eqb, ne_eqb}
 use borrow.Rule.Slice.PartMut.{put_mid, post_of, Post-is}
 use Rattle.std.proofs.lemmas.List.{drop_more, get_or_default, get_or-take, take-take, drop-take, length-append, length-take-le, take-append-drop, append_assoc}
 use Rattle.rolls.specs.declared.slots.RollFault.{RollFault}
 use Rattle.rolls.specs.declared.slots.RollFault.TheVariants.{Full}
 use Rattle.rolls.specs.Order.{insert}
-use Rattle.rolls.specs.Insertion.{below, answer, entered, over, Inserted}
+use Rattle.rolls.specs.Insertion.{below, entered, over, Inserted}
 
 module _ {X : Type 0} (less : X → X → Bool) (x : X) where
   pub below_next : (ys : List X) (i : ℕ) (d : X) → i < length ys → less (get_or ys i d) x ≡ true → below less x (drop i ys) ≡ suc (below less x (drop (i + 1) ys))

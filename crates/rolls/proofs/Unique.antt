@@ -1,6 +1,6 @@
 -- The theorem on insertion: it stays ascending, has exactly the union, and an ascending list is fixed by its items.
 use Rattle.std.proofs.Common.{◌≡◌, ℕ, Bool, true, false, cond, ◌⊎◌, List, [], ◌∷◌, sym, refl, ap, ◌∙◌, inl, inr, arith}
-use Rattle.rolls.specs.Order.{TotalOrder, insert, Leads, Ascending, Has, Lists, InsertionExact, OrderUnique}
+use Rattle.rolls.specs.Order.{TotalOrder, insert, Leads, Ascending, Has, InsertionExact, OrderUnique}
 
 module _ {X : Type 0} {less : X → X → Bool} (o : TotalOrder less) where
   leads_on : (w x : X) (ys : List X) → less w x ≡ true → Leads less x ys → Leads less w ys

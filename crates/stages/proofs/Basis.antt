@@ -1,5 +1,5 @@
 -- The basis is that of the theory.
-use Rattle.std.proofs.Common.{◌≡◌, ℕ, ◌-◌, ◌≤◌, List, length, subst, arith}
+use Rattle.std.proofs.Common.{ℕ, ◌-◌, length, subst, arith}
 use Rattle.fields.specs.Numbers.{Element}
 use Rattle.stages.specs.Syndrome.{syndrome}
 use Rattle.stages.specs.Euclid.{rows}

@@ -1,26 +1,25 @@
 -- The rows on lists are the theory's rows: one step, then the run.
-use Rattle.std.proofs.Common.{◌≡◌, ℕ, zero, suc, ◌+◌, ◌-◌, ◌<◌, ◌≤◌, Bool, true, false, cond, leb, List, [], ◌∷◌, ◌++◌, length, get_or, replicate, pos as nat, sym, refl, ap, ◌∙◌, subst, ap₂, add-one, arith, leb-false, leb-true}
+use Rattle.std.proofs.Common.{◌≡◌, ℕ, zero, suc, ◌+◌, ◌-◌, ◌<◌, ◌≤◌, Bool, true, false, cond, leb, List, [], ◌∷◌, length, get_or, replicate, pos as nat, sym, refl, ap, ◌∙◌, subst, ap₂, add-one, arith, leb-false, leb-true}
 use mathlib.Core.Path.{fun_ext}
 use native.Mathlib.Decide.{dec_lt}
 use Rattle.std.proofs.lemmas.List.{length-append, length-replicate}
 use Rattle.std.proofs.lemmas.Int.{ints}
 use Rattle.algebra.specs.Ring.{Ring}
-use Rattle.algebra.specs.Poly.{conv, padd, pneg, pzero, const, Below, mono, Degree}
+use Rattle.algebra.specs.Poly.{conv, pzero, const, Below, mono, Degree}
 use Rattle.algebra.specs.PolyRing.{Poly}
 use Rattle.algebra.specs.Solve.{ring}
 use Rattle.algebra.specs.PolyForms.{forms}
-use Rattle.algebra.specs.RingLaws as L
 use Rattle.algebra.specs.Division.{quotient, reduce}
-use Rattle.algebra.specs.Euclid.{Row as RowOf, Rows as RowsOf, top, second, ratio, next as next_of, Stopped}
+use Rattle.algebra.specs.Euclid.{Row as RowOf, Rows as RowsOf, top, second, next as next_of}
 use Rattle.algebra.proofs.Degrees.{degree_less}
 use Rattle.algebra.proofs.Rows as Theory
-use Rattle.fields.specs.Numbers.{Numbers, AllBelow, Element, elem, pos, plus, minus, times, over, ring_of, field_of, elem_mul, elem_inv, elem_neg}
-use Rattle.polynomials.specs.Series.{poly, plus_shifted}
-use Rattle.polynomials.proofs.Readings.{all_at, past, poly_past}
+use Rattle.fields.specs.Numbers.{Numbers, AllBelow, Element, elem, pos, times, over, ring_of, field_of, elem_neg}
+use Rattle.polynomials.specs.Series.{poly}
+use Rattle.polynomials.proofs.Readings.{past}
 use Rattle.polynomials.proofs.Shapes.{up_below, poly_up}
 use Rattle.polynomials.proofs.Divides.{ratio_is}
 use Rattle.stages.specs.Coefficients.{size, degree, less}
-use Rattle.stages.specs.Euclid.{Row, Rows, row_less, divide, next, run, start, rows}
+use Rattle.stages.specs.Euclid.{Row, row_less, divide, next, run, start}
 use Rattle.stages.specs.Readings.{RowReads, Stops, RowsStop, DegreesRead}
 use Rattle.stages.proofs.Coefficients.{less_length, less_below, less_reads, shifted_is, size_degree, size_under, size_has_degree}
 

@@ -1,19 +1,19 @@
 -- The syndrome of lists is the theory's.
-use Rattle.std.proofs.Common.{◌≡◌, ℕ, zero, suc, ◌+◌, ◌-◌, ◌<◌, ◌≤◌, Bool, true, false, cond, eqb, List, [], ◌∷◌, ◌++◌, length, get_or, sym, refl, ap, ◌∙◌, subst, ap₂, add-one, arith}
+use Rattle.std.proofs.Common.{◌≡◌, ℕ, zero, suc, ◌+◌, ◌-◌, ◌<◌, ◌≤◌, cond, eqb, List, [], ◌∷◌, length, get_or, sym, refl, ap, ◌∙◌, subst, ap₂, add-one, arith}
 use mathlib.Core.Path.{fun_ext}
 use native.Mathlib.Decide.{dec_lt}
 use Rattle.std.proofs.lemmas.List.{length-append, get_or-append-add, get_or_append_left}
 use Rattle.algebra.specs.Sums.{sum as sum_of, pow as powOf, prod, but, all}
 use Rattle.algebra.specs.RingLaws as L
 use Rattle.algebra.proofs.Sums.{sum_cong, sum_zero}
-use Rattle.decoding.specs.Code.{Code, dual as dualOf, syndrome as syndromeOf}
+use Rattle.decoding.specs.Code.{dual as dualOf, syndrome as syndromeOf}
 use Rattle.algebra.specs.Poly.{geo}
 use Rattle.algebra.specs.Lagrange.{barycentric}
 use Rattle.algebra.proofs.Monomials.{geo_at, geo_below}
-use Rattle.fields.specs.Numbers.{Numbers, AllBelow, Element, elem, pos, plus, minus, times, over, ring_of, field_of, elem_add, elem_mul, elem_neg, elem_inv}
+use Rattle.fields.specs.Numbers.{Numbers, AllBelow, elem, pos, plus, minus, times, over, ring_of, field_of, elem_add, elem_mul, elem_neg, elem_inv}
 use Rattle.polynomials.specs.Series.{poly}
-use Rattle.polynomials.proofs.Readings.{all_at, past}
-use Rattle.stages.specs.Coefficients.{listed, sum, product, power}
+use Rattle.polynomials.proofs.Readings.{all_at}
+use Rattle.stages.specs.Coefficients.{listed, product, power}
 use Rattle.stages.specs.Syndrome.{dual, coefficient, syndrome}
 use Rattle.stages.specs.Readings.{code_of, SyndromeReads}
 use Rattle.stages.proofs.Coefficients.{listed_length, listed_at, sum_below, sum_is, product_below, product_is, power_below, power_is}

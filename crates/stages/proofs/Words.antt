@@ -1,9 +1,9 @@
 -- The distance of lists is the theory's.
-use Rattle.std.proofs.Common.{◌≡◌, ℕ, ◌<◌, Bool, true, false, not, eqb, List, get_or, sym, refl, ap, ◌∙◌, eqb-true}
+use Rattle.std.proofs.Common.{◌≡◌, ℕ, Bool, true, false, not, eqb, get_or, refl, ap, eqb-true}
 use borrow.Author.Tests.{eqb-false}
 use Rattle.algebra.proofs.Products.{count_cong}
 use Rattle.decoding.specs.Words.{differ}
-use Rattle.fields.specs.Numbers.{Numbers, AllBelow, Element, elem, field_of, elem_inj}
+use Rattle.fields.specs.Numbers.{elem, field_of, elem_inj}
 use Rattle.polynomials.specs.Series.{poly}
 use Rattle.polynomials.proofs.Readings.{all_at}
 use Rattle.stages.specs.Readings.{DistanceReads}

@@ -1,5 +1,5 @@
 -- Euclid's rows on x ^ D and S, as lists of D + 1 coefficients: one step, the run with its stop rule, and the run from the first two rows.
-use Rattle.std.specs.Prelude.{ℕ, zero, suc, ◌+◌, ◌-◌, cond, List, [], ◌∷◌, ◌++◌, length, replicate, nat_le, slice_index}
+use Rattle.std.specs.Prelude.{ℕ, zero, suc, ◌+◌, ◌-◌, cond, List, [], ◌∷◌, ◌++◌, replicate, nat_le, slice_index}
 use Rattle.fields.specs.Numbers.{Numbers}
 use Rattle.stages.specs.Coefficients.{size, less}
 

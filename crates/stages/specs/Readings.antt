@@ -1,7 +1,6 @@
 -- What the definitions on lists mean in the decoder's theory: the syndrome of lists is the syndrome of the code that they make, the run of the rows
 -- ends at rows at which Euclid's algorithm stops, with the degrees of the theory's rows, and the distance of lists is that of the words.
 use Rattle.std.specs.Prelude.{◌≡◌, ℕ, suc, ◌-◌, ◌≤◌, List, length, pos, slice_index}
-use Rattle.algebra.specs.Ring.{Ring}
 use Rattle.algebra.specs.Sums.{Distinct, NonZero}
 use Rattle.decoding.specs.Code.{Code, syndrome as syndromeOf}
 use Rattle.algebra.specs.Euclid.{Row as RowOf, Stopped}

@@ -1,29 +1,28 @@
 -- A written sheet loads into a blank collection as the collection that it came from.
-use Rattle.std.proofs.Common.{◌≡◌, ℕ, zero, suc, ◌+◌, ◌-◌, ◌*◌, ◌/◌, ◌%◌, ◌^◌, ◌<◌, ◌≤◌, Bool, true, false, not, eqb, List, [], ◌∷◌, ◌++◌, map, length, get_or, take, drop, replicate, Some, None, Option, sym, refl, ap, ◌∙◌, subst, ap₂, ⊎_elim, arith, length-take, eq-eqb, ne_eqb}
+use Rattle.std.proofs.Common.{◌≡◌, ℕ, zero, suc, ◌+◌, ◌-◌, ◌*◌, ◌/◌, ◌%◌, ◌^◌, ◌<◌, ◌≤◌, Bool, not, List, [], ◌∷◌, map, length, get_or, take, replicate, Some, None, Option, sym, refl, ap, ◌∙◌, subst, ap₂, ⊎_elim, arith, length-take, eq-eqb, ne_eqb}
 use Rattle.std.proofs.lemmas.Bool.{cases_lt}
 use Rattle.std.proofs.lemmas.List.{same_lists, get_or_append_left, get_or-append_right, get_or-take, length-map}
 use Rattle.std.proofs.lemmas.List.FromFn.{length-map-range_with_len, get_or-map-range_with_len}
 use Rattle.std.specs.List.{range_with_len}
-use Rattle.faults.specs.declared.CollectionFault.{CollectionFault}
 use Rattle.faults.specs.declared.SheetFault.{SheetFault}
 use Rattle.faults.specs.declared.SheetFault.TheVariants.{OtherField, Collection}
 use Rattle.codes.specs.declared.Setting.{Setting}
 use Rattle.codes.specs.First.{or_else, when, mapped}
-use Rattle.codes.specs.Opening.{Given, first_fault}
+use Rattle.codes.specs.Opening.{Given}
 use Rattle.collections.specs.declared.Place.{Place}
 use Rattle.collections.specs.declared.Place.TheVariants.{Empty, Filled}
-use Rattle.collections.specs.Book.{Book, unopened, opened, Act, opening, of_code, writes, AllFit, FairPage, Fair}
+use Rattle.collections.specs.Book.{Book, unopened, opened, opening, of_code, writes, AllFit, FairPage, Fair}
 use Rattle.collections.specs.declared.Opened.{Opened}
 use Rattle.collections.specs.declared.State.{State}
 use Rattle.collections.specs.declared.State.TheVariants.{Open}
 use Rattle.collections.specs.declared.Kept.{Kept}
 use Rattle.collections.specs.Standing.{given_of, page, standing, share, Over, Sound}
-use Rattle.sheets.specs.Sheet.{Sheet, sheet_of, two, header_fault, field_fault, number, column, given_in, share_in, shares_in}
-use Rattle.transfer.specs.Loading.{acts_of, enterings, first_refused, all_written, load_fault, loaded, Said, done, said_by, left_by, Loads}
-use Rattle.transfer.specs.Writing.{pair, as_number, header_bytes, entry_bytes, entries_bytes, sheet_bytes, bytes_of}
+use Rattle.sheets.specs.Sheet.{sheet_of, two, header_fault, field_fault, number, column, given_in, share_in, shares_in}
+use Rattle.transfer.specs.Loading.{acts_of, enterings, first_refused, all_written, load_fault, loaded, done, said_by, left_by, Loads}
+use Rattle.transfer.specs.Writing.{as_number, entry_bytes, entries_bytes, sheet_bytes, bytes_of}
 use Rattle.sheets.proofs.Made.{no_fault}
 use Rattle.transfer.proofs.Written.{entries_length, front_length, count_is}
-use Rattle.transfer.proofs.Filled.{place_of, place_share, fill, AllElements, none_refused}
+use Rattle.transfer.proofs.Filled.{place_share, fill, AllElements, none_refused}
 
 two_pair : (v : ℕ) → v < 2 ^ 16 → two (v / 256 % 256) (v % 256) ≡ v
 two_pair v h = omega arith

@@ -6,12 +6,10 @@ use Rattle.std.proofs.lemmas.List.FromFn.{length-map-range_with_len, get_or-map-
 use Rattle.faults.specs.declared.SheetFault.{SheetFault}
 use Rattle.faults.specs.declared.SheetFault.TheVariants.{Version, Length, OtherField, Collection}
 use Rattle.codes.specs.First.{or_else, when, mapped}
-use Rattle.codes.specs.Opening.{Given}
 use Rattle.collections.specs.declared.Place.TheVariants.{Empty}
 use Rattle.collections.specs.Book.{Book, opened}
-use Rattle.collections.specs.Standing.{share, shares}
 use Rattle.collections.proofs.Fairness.{neither_left, neither_right, test_failed}
-use Rattle.sheets.specs.Sheet.{Sheet, sheet_of, two, version_fault, length_fault, header_fault, field_fault, number, column, given_in, share_in, shares_in}
+use Rattle.sheets.specs.Sheet.{Sheet, sheet_of, two, version_fault, length_fault, header_fault, field_fault, number, given_in, share_in, shares_in}
 use Rattle.transfer.specs.Loading.{acts_of, enterings, first_refused, all_written, load_fault, loaded, done, said_by, left_by, Loads}
 use Rattle.transfer.specs.Writing.{pair, as_number, header_bytes, entry_bytes, entries_bytes, sheet_bytes, bytes_of}
 use Rattle.transfer.proofs.Filled.{place_of, share_place, fill}

@@ -1,5 +1,5 @@
 -- The book that the acts of a sheet leave: its places are the sheet's shares. None of the enterings is refused where every share is an element.
-use Rattle.std.proofs.Common.{◌≡◌, ℕ, zero, suc, ◌+◌, ◌<◌, ◌≤◌, Bool, true, false, leb, List, [], ◌∷◌, ◌++◌, map, length, get_or, set, replicate, Some, None, Option, sym, refl, ap, ◌∙◌, subst, ap₂, append_assoc, arith, length-append}
+use Rattle.std.proofs.Common.{◌≡◌, ℕ, ◌+◌, ◌<◌, Bool, List, [], ◌∷◌, ◌++◌, map, length, get_or, set, replicate, Some, None, Option, sym, refl, ap, ◌∙◌, ap₂, append_assoc, arith, length-append}
 use lib.Seq.{get_or-append_seam}
 use borrow.Author.Tests.{lt-leb}
 use Rattle.faults.specs.declared.CollectionFault.{CollectionFault}
@@ -8,7 +8,7 @@ use Rattle.codes.specs.First.{or_else, when}
 use Rattle.codes.specs.Opening.{Given}
 use Rattle.collections.specs.declared.Place.{Place}
 use Rattle.collections.specs.declared.Place.TheVariants.{Empty, Filled}
-use Rattle.collections.specs.Book.{Book, opened, entering, check, number_check, other_check, place_check, writes}
+use Rattle.collections.specs.Book.{Book, opened, entering, check, number_check, other_check, writes}
 use Rattle.collections.specs.Standing.{share}
 use Rattle.transfer.specs.Loading.{enterings, first_refused, all_written}
 

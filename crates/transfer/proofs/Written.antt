@@ -1,5 +1,5 @@
 -- Bytes that are written one run behind the other into the front of an area.
-use Rattle.std.proofs.Common.{◌≡◌, ℕ, zero, suc, ◌+◌, ◌*◌, ◌<◌, ◌≤◌, Bool, false, ltb, List, [], ◌∷◌, ◌++◌, length, get_or, take, drop, Some, None, Option, sym, refl, ap, ◌∙◌, append_assoc, add-one, arith, length-append, length-take, le-ltb}
+use Rattle.std.proofs.Common.{◌≡◌, ℕ, zero, suc, ◌+◌, ◌*◌, ◌≤◌, Bool, List, ◌++◌, length, take, drop, None, Option, sym, refl, ap, ◌∙◌, append_assoc, add-one, arith, length-append, length-take, le-ltb}
 use lib.Seq.{take-append_seam, drop-append_seam}
 use Rattle.std.proofs.lemmas.List.{drop-drop}
 use Rattle.faults.specs.declared.ListingFault.TheVariants.{ResultArea}

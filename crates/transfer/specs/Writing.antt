@@ -1,5 +1,5 @@
 -- The bytes of a sheet for an open book, and writing it: what refuses that, 20 and then 10, and what the area holds after it.
-use Rattle.std.specs.Prelude.{◌≡◌, ℕ, zero, suc, ◌+◌, ◌*◌, ◌/◌, ◌%◌, List, [], ◌∷◌, ◌++◌, length, drop, Some, None, Option, nat_lt, slice_index, slice_index_or}
+use Rattle.std.specs.Prelude.{ℕ, zero, suc, ◌+◌, ◌*◌, ◌/◌, ◌%◌, List, [], ◌∷◌, ◌++◌, length, drop, Some, None, Option, nat_lt, slice_index, slice_index_or}
 use Rattle.faults.specs.declared.CollectionFault.TheVariants.{Blank}
 use Rattle.faults.specs.declared.ListingFault.{ListingFault}
 use Rattle.faults.specs.declared.ListingFault.TheVariants.{Collection, ResultArea}

@@ -1,4 +1,4 @@
-use Rattle.std.proofs.Common.{ℕ, get_or}
+use Rattle.std.proofs.Common.{get_or}
 use Rattle.polynomials.proofs.Writes.{Written}
 use Rattle.polynomials.proofs.add_multiple.Given as goal
 

@@ -1,4 +1,4 @@
-use Rattle.std.proofs.Common.{◌≡◌, ℕ, ◌≤◌, length, take, arith}
+use Rattle.std.proofs.Common.{ℕ, take, arith}
 use Rattle.std.proofs.lemmas.List.{length-take-le}
 use Rattle.basis.proofs.Laid.{five}
 use Rattle.basis.proofs.Basis.write.Goals as goal

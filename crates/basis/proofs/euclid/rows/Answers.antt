@@ -1,4 +1,4 @@
-use Rattle.std.proofs.Common.{◌≡◌, ℕ, suc, ◌-◌, ◌<◌, length, sym, ◌∙◌, ap₂, arith}
+use Rattle.std.proofs.Common.{◌≡◌, suc, ◌-◌, ◌<◌, length, ◌∙◌, ap₂, arith}
 use Rattle.stages.specs.Euclid.{row, run}
 use Rattle.basis.specs.Rows.{limit}
 use Rattle.basis.proofs.Starts.{start_fits}

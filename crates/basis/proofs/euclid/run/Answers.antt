@@ -1,4 +1,4 @@
-use Rattle.std.proofs.Common.{◌≡◌, ℕ, ◌-◌, ◌<◌, ◌≤◌, length, get_or, sym, ap, ◌∙◌, subst, ap₂, arith}
+use Rattle.std.proofs.Common.{◌≡◌, ℕ, ◌-◌, ◌<◌, length, sym, subst}
 use Rattle.stages.specs.Coefficients.{size}
 use Rattle.stages.specs.Euclid.{Row, row}
 use Rattle.basis.specs.Rows.{Fits, limit}

@@ -1,4 +1,4 @@
-use Rattle.std.proofs.Common.{◌≡◌, length}
+use Rattle.std.proofs.Common.{length}
 use Rattle.stages.specs.Coefficients.{size}
 use Rattle.stages.specs.Euclid.{row, two_rows, run}
 use Rattle.basis.specs.Rows.{limit}

@@ -1,4 +1,4 @@
-use Rattle.std.proofs.Common.{◌≡◌, ℕ, suc, ◌-◌, ◌<◌, length, replicate, sym, ap, ◌∙◌, arith}
+use Rattle.std.proofs.Common.{ℕ, ◌-◌, ◌<◌, length, replicate, ap, ◌∙◌, arith}
 use Rattle.basis.proofs.Starts.{started}
 use Rattle.basis.proofs.euclid.start.Goals as goal
 

@@ -1,6 +1,6 @@
-use Rattle.std.proofs.Common.{◌≡◌, ℕ, suc, ◌-◌, ◌<◌, length, get_or, sym, refl, ap, ◌∙◌, subst, ap₂, arith}
+use Rattle.std.proofs.Common.{◌≡◌, ℕ, suc, ◌-◌, length, ap, ◌∙◌, ap₂, arith}
 use Rattle.stages.specs.Coefficients.{power}
-use Rattle.polynomials.proofs.Writes.{Written, written_none, written_down}
+use Rattle.polynomials.proofs.Writes.{written_none, written_down}
 use Rattle.basis.proofs.Powers.{powers_none, powers_more, powers_written}
 use Rattle.basis.proofs.syndromes.add_powers.Goals as goal
 

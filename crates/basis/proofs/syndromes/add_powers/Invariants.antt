@@ -1,4 +1,4 @@
-use Rattle.std.proofs.Common.{◌≡◌, ℕ, ◌-◌, length, get_or}
+use Rattle.std.proofs.Common.{◌≡◌, ◌-◌, length, get_or}
 use Rattle.polynomials.proofs.Writes.{Written}
 use Rattle.stages.specs.Coefficients.{power}
 use Rattle.basis.proofs.syndromes.add_powers.Given as goal

@@ -1,4 +1,4 @@
-use Rattle.std.proofs.Common.{◌≡◌, sym, ap, ◌∙◌, arith}
+use Rattle.std.proofs.Common.{◌∙◌, arith}
 use Rattle.basis.proofs.Powers.{product_none, product_other, product_same, dual_by}
 use Rattle.basis.proofs.syndromes.dual.Goals as goal
 use Rattle.basis.proofs.syndromes.dual.Goals.{then-h-j, else-h-j}

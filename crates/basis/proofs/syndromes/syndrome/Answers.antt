@@ -1,4 +1,4 @@
-use Rattle.std.proofs.Common.{◌≡◌, ℕ, suc, ◌-◌, ◌<◌, length, get_or, sym, refl, ap, ◌∙◌, arith}
+use Rattle.std.proofs.Common.{◌≡◌, ℕ, ◌-◌, ◌<◌, length, get_or, refl, ap, ◌∙◌, arith}
 use Rattle.stages.specs.Syndrome.{syndrome}
 use Rattle.basis.proofs.Powers.{sums_none, sums_more, sums_all}
 use Rattle.basis.proofs.syndromes.syndrome.Goals as goal

@@ -1,4 +1,4 @@
-use Rattle.std.proofs.Common.{◌≡◌, ℕ, ◌≤◌, List, length, take, sym, refl, ap, ◌∙◌, subst, arith}
+use Rattle.std.proofs.Common.{◌≡◌, ℕ, length, sym, ◌∙◌, subst, arith}
 use Rattle.fields.specs.Numbers.{AllBelow}
 use Rattle.basis_call.proofs.Codes.{below_by, count_by, points_room, multipliers_room}
 use Rattle.basis_call.proofs.calling.basis_for.Goals as goal

@@ -1,6 +1,5 @@
-use Rattle.std.proofs.Common.{◌≡◌, ℕ, ◌+◌, ◌-◌, ◌*◌, ◌≤◌, List, length, take, None, sym, refl, ap, ◌∙◌, subst, ap₂, arith}
+use Rattle.std.proofs.Common.{◌≡◌, ℕ, ◌+◌, ◌-◌, ◌*◌, ◌≤◌, length, take, None, sym, ◌∙◌, subst, ap₂, arith}
 use Rattle.std.proofs.lemmas.List.{length-take-le}
-use Rattle.std.proofs.lemmas.Int.{ints}
 use Rattle.fields.specs.Numbers.{AllBelow}
 use Rattle.gathering.specs.Shares.{gathering_fault}
 use Rattle.basis_call.proofs.Codes.{over_by, fault_by, fits_area, width_is, area_by, weights_by}

@@ -1,4 +1,4 @@
-use Rattle.std.proofs.Common.{◌≡◌, ℕ, List, length, take, sym, refl}
+use Rattle.std.proofs.Common.{◌≡◌, length, take, sym, refl}
 use Rattle.codes.specs.Opening.{given}
 use Rattle.codes.proofs.Opened.{counted, dimension, places, non_zero, distinct, accepted, no_fault}
 use Rattle.codes.proofs.Opening.check.Goals as goal

@@ -1,4 +1,4 @@
-use Rattle.std.proofs.Common.{◌≡◌, true, Decides}
+use Rattle.std.proofs.Common.{Decides}
 use Rattle.std.proofs.lemmas.Bool.Decides.{Decides-at}
 use Rattle.decoding.specs.Setting.{Accepted}
 use Rattle.codes.proofs.Acceptance.{exact, consequences}

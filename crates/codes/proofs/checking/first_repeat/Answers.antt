@@ -1,4 +1,4 @@
-use Rattle.std.proofs.Common.{◌≡◌, true, false, length, sym, ◌∙◌, arith}
+use Rattle.std.proofs.Common.{length, sym, ◌∙◌, arith}
 use Rattle.codes.proofs.Firsts.{when_true, when_false, left_none, left_more, left_found, left_all}
 use Rattle.codes.proofs.checking.first_repeat.Goals as goal
 

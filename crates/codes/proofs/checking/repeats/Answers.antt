@@ -1,4 +1,4 @@
-use Rattle.std.proofs.Common.{◌≡◌, true, false, eqb, get_or, is_some, sym, ap, arith}
+use Rattle.std.proofs.Common.{is_some, sym, ap, arith}
 use Rattle.std.proofs.lemmas.Bool.{eq-eqb, ne_eqb}
 use Rattle.codes.proofs.Firsts.{when_true, when_false, left_none, left_more, left_found, left_all}
 use Rattle.codes.proofs.checking.repeats.Goals as goal

@@ -1,4 +1,4 @@
-use Rattle.std.proofs.Common.{◌∙◌, arith}
+use Rattle.std.proofs.Common.{arith}
 use Rattle.codes.proofs.Issued.{value_none, value_more}
 use Rattle.codes.proofs.issuing.value.Goals as goal
 

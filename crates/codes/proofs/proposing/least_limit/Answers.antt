@@ -1,4 +1,4 @@
-use Rattle.std.proofs.Common.{◌≡◌, sym, refl, ◌∙◌, arith}
+use Rattle.std.proofs.Common.{sym, refl, ◌∙◌, arith}
 use Rattle.codes.specs.Settings.{accepted_setting, least_limit, setting}
 use Rattle.codes.proofs.Firsts.{left_more, left_found, left_all}
 use Rattle.codes.proofs.Proposals.{taken, passed}

@@ -1,4 +1,4 @@
-use Rattle.std.proofs.Common.{◌≡◌, sym, refl, ◌∙◌, arith}
+use Rattle.std.proofs.Common.{sym, refl, ◌∙◌, arith}
 use Rattle.codes.specs.Settings.{least_limit, least_setting}
 use Rattle.codes.proofs.Firsts.{left_more, left_some, left_all, none_of}
 use Rattle.codes.proofs.proposing.least_setting.Goals as goal

@@ -1,4 +1,4 @@
-use Rattle.std.proofs.Common.{◌≡◌, Result, sym, ◌∙◌, subst, arith}
+use Rattle.std.proofs.Common.{Result, sym, ◌∙◌, subst, arith}
 use Rattle.faults.specs.declared.CodeFault.{CodeFault}
 use Rattle.codes.specs.declared.Setting.{Setting}
 use Rattle.codes.specs.Settings.{Proposed}

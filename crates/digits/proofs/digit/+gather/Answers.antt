@@ -1,4 +1,4 @@
-use Rattle.std.proofs.Common.{◌≡◌, ℕ, ◌+◌, ◌-◌, ◌<◌, ◌≤◌, List, length, get_or, take, drop, set, sym, refl, ap, ◌∙◌, subst, arith, length-drop, length-set, length-take}
+use Rattle.std.proofs.Common.{◌≡◌, ℕ, ◌+◌, ◌-◌, ◌<◌, List, length, get_or, take, drop, set, sym, ap, ◌∙◌, subst, arith, length-drop, length-set, length-take}
 use Rattle.fields.specs.Numbers.{ring_of}
 use Rattle.polynomials.specs.Series.{Reads}
 use Rattle.digits.specs.declared.Shape.{Shape}

@@ -1,9 +1,6 @@
-use Rattle.std.proofs.Common.{◌≡◌, ℕ, ◌+◌, ◌<◌, ◌≤◌, length, sym, refl, ap, ◌∙◌, subst, arith}
+use Rattle.std.proofs.Common.{◌≡◌, ℕ, sym, ap, ◌∙◌, arith}
 use native.Mathlib.Decide.{dec_lt}
-use Rattle.algebra.specs.Poly.{pzero}
-use Rattle.algebra.specs.Division.{size}
-use Rattle.fields.specs.Numbers.{ring_of, field_of}
-use Rattle.polynomials.specs.Series.{poly}
+use Rattle.fields.specs.Numbers.{ring_of}
 use Rattle.digits.specs.Runs.{runs}
 use Rattle.digits.specs.Digits.{column}
 use Rattle.digits.proofs.Columns.{found, nowhere, size_none}

@@ -1,4 +1,4 @@
-use Rattle.std.proofs.Common.{◌≡◌, sym, ◌∙◌, arith}
+use Rattle.std.proofs.Common.{sym, ◌∙◌, arith}
 use Rattle.digits.proofs.Spans.{span_none, span_one}
 use Rattle.digits.proofs.digit.root_span.Goals as goal
 

@@ -1,10 +1,10 @@
-use Rattle.std.proofs.Common.{◌≡◌, ℕ, ◌-◌, ◌<◌, ◌≤◌, List, length, take, drop, sym, ap, subst, arith, rules}
+use Rattle.std.proofs.Common.{◌≡◌, ℕ, ◌-◌, ◌<◌, List, length, take, drop, sym, ap, subst, arith}
 use Rattle.digits.specs.declared.Shape.{Shape}
 use Rattle.algebra.specs.PolyRing.{Poly}
 use Rattle.algebra.proofs.Sweep.{sweep}
 use Rattle.fields.specs.Numbers.{elem, ring_of}
 use Rattle.digits.specs.Runs.{runs, term, Held}
-use Rattle.digits.proofs.Arrays.{deep_one, wide_one, held_rest, part_rest, lent_take, lent_drop}
+use Rattle.digits.proofs.Arrays.{deep_one, held_rest, part_rest}
 use Rattle.digits.proofs.Passes.{sweep_one, next_all, next_room, next_long, swept_is, swept_held}
 use Rattle.digits.proofs.shifting.+sweep.Goals as goal
 

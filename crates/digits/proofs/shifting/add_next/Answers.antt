@@ -1,5 +1,5 @@
-use Rattle.std.proofs.Common.{◌≡◌, ℕ, ◌+◌, ◌≤◌, length, get_or, take, drop, sym, subst, add-zero, arith, rules}
-use Rattle.polynomials.proofs.Writes.{Written, written_none, written_turn_from}
+use Rattle.std.proofs.Common.{◌≡◌, ℕ, ◌+◌, subst, add-zero, arith}
+use Rattle.polynomials.proofs.Writes.{Written, written_none}
 use Rattle.digits.proofs.Arrays.{summed, summed_turn, first_reads, rest_same}
 use Rattle.digits.proofs.shifting.add_next.Goals as goal
 

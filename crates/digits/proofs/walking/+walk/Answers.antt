@@ -1,10 +1,9 @@
-use Rattle.std.proofs.Common.{◌≡◌, ℕ, ◌+◌, ◌-◌, ◌<◌, ◌≤◌, ◌≢◌, List, [], ◌∷◌, ◌++◌, length, get_or, take, set, sym, refl, ap, ◌∙◌, subst, arith, length-set}
-use Rattle.fields.specs.Numbers.{AllBelow, ring_of, elem}
+use Rattle.std.proofs.Common.{◌≡◌, ℕ, ◌+◌, ◌<◌, ◌≢◌, length, take, set, sym, refl, ◌∙◌, subst, arith, length-set}
+use Rattle.fields.specs.Numbers.{ring_of}
 use Rattle.polynomials.specs.Series.{poly}
-use Rattle.digits.specs.Runs.{runs, Held}
-use Rattle.digits.specs.Digits.{Decides, Among}
-use Rattle.digits.specs.Walks.{Taken, Walked, Ends}
-use Rattle.digits.proofs.Courses.{at_leaf, at_start, at_skip, at_root, at_end}
+use Rattle.digits.specs.Runs.{runs}
+use Rattle.digits.specs.Digits.{Decides}
+use Rattle.digits.proofs.Courses.{at_leaf, at_start, at_skip, at_end}
 use Rattle.digits.proofs.Turns.{all_set, value_zero, value_some, before_stays, turn_same, turn_walked, state_as}
 use Rattle.digits.proofs.walking.+walk.Goals as goal
 use Rattle.digits.proofs.walking.+walk.Goals.{then-evaluate-eq0, else-evaluate-eq0}

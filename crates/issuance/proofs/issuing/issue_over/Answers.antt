@@ -1,6 +1,6 @@
-use Rattle.std.proofs.Common.{◌≡◌, ℕ, ◌≤◌, List, length, take, None, sym, ap, ◌∙◌, subst, arith}
+use Rattle.std.proofs.Common.{◌≡◌, ℕ, take, None, sym, ap, ◌∙◌, subst}
 use Rattle.std.proofs.lemmas.List.FromFn.{length-map-range_with_len}
-use Rattle.codes.specs.Opening.{Given, first_fault, Holds}
+use Rattle.codes.specs.Opening.{first_fault, Holds}
 use Rattle.codes.specs.Codewords.{message_fault}
 use Rattle.sheets.specs.Sheet.{given_in}
 use Rattle.sheets.specs.Reading.{meant}

@@ -7,7 +7,7 @@ below_by : (q : ℕ) (xs : List ℕ) → T (all_below (λ k. ltb (get_or xs k 0)
 below_by q xs t k h = ltb→lt (get_or xs k 0) q (at_below (λ k. ltb (get_or xs k 0) q) (length xs) t k h)
 
 pub root_at_leaf-found-requires : goal.root_at_leaf-found-requires
-root_at_leaf-found-requires c =
+root_at_leaf-found-requires g c =
     record {
       digits = below_by 7 (5 ∷ 5 ∷ 1 ∷ []) tt;
       depth = refl;

@@ -1,4 +1,4 @@
-use Rattle.std.proofs.Common.{◌≡◌, ◌<◌, length, sym, ◌∙◌, arith}
+use Rattle.std.proofs.Common.{sym, ◌∙◌, arith}
 use Rattle.rolls.proofs.Comparing.{same_here, other_here, ends_second, ends_first}
 use Rattle.rolls.proofs.ordered.comes_before.Goals as goal
 

@@ -1,4 +1,4 @@
-use Rattle.std.proofs.Common.{◌≡◌, ◌-◌}
+use Rattle.std.proofs.Common.{◌≡◌}
 use Rattle.rolls.proofs.Clearing.{cleared_to}
 use Rattle.rolls.proofs.slots.clear_beyond.Given as goal
 

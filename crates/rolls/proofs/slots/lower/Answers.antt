@@ -1,4 +1,4 @@
-use Rattle.std.proofs.Common.{◌≡◌, true, false, length, drop, sym, refl, ap, ◌∙◌, subst, arith}
+use Rattle.std.proofs.Common.{sym, ap, arith}
 use Rattle.std.proofs.lemmas.List.{drop_all}
 use Rattle.rolls.specs.Insertion.{below}
 use Rattle.rolls.proofs.Placing.{below_next, below_stop}

@@ -1,4 +1,4 @@
-use Rattle.std.proofs.Common.{◌≡◌, ◌<◌, true, false, get_or, sym, refl, ap, ◌∙◌, arith}
+use Rattle.std.proofs.Common.{true, false, refl, arith}
 use Rattle.rolls.proofs.Placing.{told_known, told_full, told_new, exact, within, by_default}
 use Rattle.rolls.proofs.slots.place.Goals as goal
 use Rattle.rolls.proofs.slots.place.Goals.{else-i-len-via-then-i-len+else-not-precedes, else-i-len-via-else-i-len}

@@ -4,7 +4,7 @@ use Rattle.sift.proofs.Concrete.{below_by, nonzero_by, distinct_by, located_shor
 use Rattle.sift.proofs.tests.a_pair_gives_its_word.Goals as goal
 
 pub sift-found-requires : goal.sift-found-requires
-sift-found-requires c =
+sift-found-requires g c =
     record {
       placed =
           record {

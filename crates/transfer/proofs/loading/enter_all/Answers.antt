@@ -1,8 +1,7 @@
-use Rattle.std.proofs.Common.{◌≡◌, ◌+◌, ◌<◌, ◌≤◌, length, get_or, drop, Some, Ok, Err, sym, refl, ap, ◌∙◌, subst, arith}
+use Rattle.std.proofs.Common.{◌≡◌, ◌+◌, ◌<◌, length, drop, Some, sym, refl, ap, ◌∙◌, subst, arith}
 use Rattle.std.proofs.lemmas.Result.{err_from_is_err_and, IfOk-from_err}
 use Rattle.codes.specs.Opening.{fault_of}
 use Rattle.collections.specs.Book.{entering, check, Right}
-use Rattle.collections.specs.declared.Kept.{Kept}
 use Rattle.collections.specs.Standing.{standing, said, Sound}
 use Rattle.transfer.specs.Loading.{enterings}
 use Rattle.transfer.proofs.Acts.{Done, accepted, rejected, goes, skips, stops, none_at, some_at, over_at}

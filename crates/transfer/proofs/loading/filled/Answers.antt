@@ -1,12 +1,12 @@
-use Rattle.std.proofs.Common.{◌≡◌, Some, sym, refl, ap, ◌∙◌, subst}
+use Rattle.std.proofs.Common.{Some, sym, ap, ◌∙◌, subst}
 use Rattle.std.proofs.lemmas.Result.{err_from_is_err_and, IfOk-from_err}
 use Rattle.codes.specs.Opening.{fault_of}
-use Rattle.collections.specs.Book.{opening, done, Right}
+use Rattle.collections.specs.Book.{opening, Right}
 use Rattle.collections.specs.Standing.{standing, said}
 use Rattle.sheets.specs.Sheet.{given_in, shares_in}
 use Rattle.sheets.specs.Reading.{meant}
 use Rattle.transfer.specs.Loading.{enterings}
-use Rattle.transfer.proofs.Acts.{Done, opens_refused, opens_first}
+use Rattle.transfer.proofs.Acts.{opens_refused, opens_first}
 use Rattle.transfer.proofs.loading.filled.Goals as goal
 
 pub returns-in_err-open_by : goal.returns-in_err-open_by

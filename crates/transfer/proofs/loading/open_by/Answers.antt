@@ -1,8 +1,7 @@
-use Rattle.std.proofs.Common.{◌≡◌, ℕ, ◌≤◌, List, length, take, sym, ap, ◌∙◌, subst, arith, rules}
+use Rattle.std.proofs.Common.{◌≤◌, length, ◌∙◌, subst, arith, rules}
 use Rattle.codes.specs.Opening.{Given}
 use Rattle.collections.specs.Book.{opening}
 use Rattle.collections.specs.Standing.{Judged}
-use Rattle.sheets.specs.Sheet.{given_in}
 use Rattle.sheets.specs.Reading.{meant}
 use Rattle.sheets.proofs.Told.{told_count, given_by}
 use Rattle.transfer.proofs.loading.open_by.Goals as goal
