@@ -2,7 +2,7 @@ ghost use Rattle.std.specs.Prelude.{◌≡◌, ℕ, ◌+◌, ◌-◌, ◌<◌, �
 ghost use Rattle.fields.specs.Numbers.{AllBelow};
 ghost use Rattle.stages.specs.Coefficients.{less, size as size_of};
 ghost use Rattle.stages.specs.Euclid.{row, two_rows, divide, next, run as run_of, start as start_of, rows as rows_of};
-ghost use Rattle.basis.specs.Rows.{Fits, Room, limit as limitOf};
+ghost use Rattle.basis.specs.Rows.{Fits, Room, limit as limit_of};
 
 use fields::Field;
 use polynomials::{add_shifted_multiple, size};
@@ -19,7 +19,7 @@ pub enum Stop {
 impl Stop {
     // What the size of a row's a must not pass for the run to stop there, where its b has the degree l.
     fn limit(self, l: usize) -> usize
-        ensures { result ≡ limitOf self l }
+        ensures { result ≡ limit_of self l }
     {
         match self {
             Stop::Crossing => l,
@@ -29,7 +29,7 @@ impl Stop {
 
     // Whether the run goes on past a last row of these sizes.
     fn goes_on(self, a: usize, b: usize) -> bool
-        ensures { result ≡ not (nat_le a (limitOf self (b - 1))) }
+        ensures { result ≡ not (nat_le a (limit_of self (b - 1))) }
     {
         a > self.limit(b.saturating_sub(1))
     }
@@ -89,7 +89,7 @@ fn step<F: Field>(pa: &mut [u16], pb: &mut [u16], la: &mut [u16], lb: &mut [u16]
 fn run<F: Field>(stop: Stop, pa: &mut [u16], pb: &mut [u16], la: &mut [u16], lb: &mut [u16])
     requires first { Fits F.Field.numbers.q (length la.old) (row pa.old pb.old) }
     requires second { Fits F.Field.numbers.q (length la.old) (row la.old lb.old) }
-    ensures { two_rows (row pa.new pb.new) (row la.new lb.new) ≡ run_of F.Field.numbers (limitOf stop) (length la.old) (two_rows (row pa.old pb.old) (row la.old lb.old)) }
+    ensures { two_rows (row pa.new pb.new) (row la.new lb.new) ≡ run_of F.Field.numbers (limit_of stop) (length la.old) (two_rows (row pa.old pb.old) (row la.old lb.old)) }
 {
     while stop.goes_on(size::<F>(la), size::<F>(lb)) {
         step::<F>(pa, pb, la, lb);
@@ -122,7 +122,7 @@ pub fn rows<F: Field>(
     requires some { 0 < length s.now }
     requires all { AllBelow F.Field.numbers.q s.now }
     requires lengths { Room (length s.now) pa.old pb.old la.old lb.old }
-    ensures { two_rows (row pa.new pb.new) (row la.new lb.new) ≡ rows_of F.Field.numbers (limitOf stop) (length s.now - 1) s.now }
+    ensures { two_rows (row pa.new pb.new) (row la.new lb.new) ≡ rows_of F.Field.numbers (limit_of stop) (length s.now - 1) s.now }
 {
     start::<F>(s, pa, pb, la, lb);
     run::<F>(stop, pa, pb, la, lb);

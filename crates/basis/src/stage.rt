@@ -1,7 +1,7 @@
 ghost use Rattle.std.specs.Prelude.{◌≡◌, ℕ, ◌+◌, ◌-◌, ◌*◌, ◌<◌, ◌≤◌, ◌++◌, length, take, drop, pos, ◌-ℤ◌};
 ghost use Rattle.fields.specs.Numbers.{AllBelow};
-ghost use Rattle.stages.specs.Coefficients.{degree as degreeOf};
-ghost use Rattle.stages.specs.Basis.{basis as basisOf};
+ghost use Rattle.stages.specs.Coefficients.{degree as degree_of};
+ghost use Rattle.stages.specs.Basis.{basis as basis_of};
 ghost use Rattle.basis.specs.Found.{Filled, Finds, laid};
 ghost use Rattle.basis.specs.Rows.{Room};
 ghost use Rattle.stages.specs.Euclid.{row, two_rows};
@@ -19,7 +19,7 @@ const WIDTH: usize = 32;
 fn first_weight<F: Field>(radius: u8, h10: &[u16]) -> i16
     requires all { AllBelow F.Field.numbers.q h10.now }
     requires short { length h10.now ≤ 32 }
-    ensures { result ≡ pos radius -ℤ degreeOf h10.now -ℤ pos 1 }
+    ensures { result ≡ pos radius -ℤ degree_of h10.now -ℤ pos 1 }
 {
     i16::from(radius) - degree::<F>(h10) - 1
 }
@@ -28,7 +28,7 @@ fn first_weight<F: Field>(radius: u8, h10: &[u16]) -> i16
 fn second_weight<F: Field>(radius: u8, h21: &[u16]) -> i16
     requires all { AllBelow F.Field.numbers.q h21.now }
     requires short { length h21.now ≤ 32 }
-    ensures { result ≡ pos radius -ℤ degreeOf h21.now }
+    ensures { result ≡ pos radius -ℤ degree_of h21.now }
 {
     i16::from(radius) - degree::<F>(h21)
 }
@@ -79,7 +79,7 @@ pub fn find_basis<F: Field>(
     requires some { 1 ≤ threshold }
     requires fewer { threshold ≤ length points.now }
     requires short { length points.now ≤ 32 }
-    ensures { Finds (basisOf F.Field.numbers points.now multipliers.now threshold shares.now) radius result }
+    ensures { Finds (basis_of F.Field.numbers points.now multipliers.now threshold shares.now) radius result }
 {
     let d = points.len() - threshold + 1;
     let mut s = [0; WIDTH];

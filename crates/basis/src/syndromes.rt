@@ -1,7 +1,7 @@
 ghost use Rattle.std.specs.Prelude.{◌≡◌, ℕ, ◌+◌, ◌-◌, ◌<◌, ◌≤◌, length};
 ghost use Rattle.fields.specs.Numbers.{AllBelow};
 ghost use Rattle.stages.specs.Coefficients.{listed, power};
-ghost use Rattle.stages.specs.Syndrome.{dual as dualOf, syndrome as syndromeOf};
+ghost use Rattle.stages.specs.Syndrome.{dual as dual_of, syndrome as syndrome_of};
 ghost use Rattle.basis.specs.Powers.{with_powers};
 
 use fields::Field;
@@ -10,7 +10,7 @@ use fields::Field;
 fn dual<F: Field>(points: &[u16], multipliers: &[u16], j: usize) -> u16
     requires place { j < length points.now }
     requires same { length multipliers.now ≡ length points.now }
-    ensures { result ≡ dualOf F.Field.numbers points.now multipliers.now j }
+    ensures { result ≡ dual_of F.Field.numbers points.now multipliers.now j }
 {
     let mut product = 1;
     for h in 0..points.len() {
@@ -40,7 +40,7 @@ pub fn syndrome<F: Field>(points: &[u16], multipliers: &[u16], shares: &[u16], o
     requires same { length multipliers.now ≡ length points.now }
     requires told { length shares.now ≡ length points.now }
     requires some { 0 < length out.old }
-    ensures { out.new ≡ syndromeOf F.Field.numbers points.now multipliers.now (length out.old - 1) shares.now }
+    ensures { out.new ≡ syndrome_of F.Field.numbers points.now multipliers.now (length out.old - 1) shares.now }
 {
     out.fill(0);
     let last = out.len() - 1;

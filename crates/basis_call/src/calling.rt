@@ -3,7 +3,7 @@ ghost use Rattle.fields.specs.Numbers.{AllBelow};
 ghost use Rattle.codes.specs.Opening.{fault_of};
 ghost use Rattle.codes.specs.Codewords.{area_after};
 ghost use Rattle.collections.specs.Standing.{standing, Sound};
-ghost use Rattle.stages.specs.Basis.{basis as basisOf, runs};
+ghost use Rattle.stages.specs.Basis.{basis as the_basis, runs};
 ghost use Rattle.basis.specs.Found.{Finds};
 ghost use Rattle.basis_call.specs.Calls.{basis_fault, basis_of, Weighs};
 
@@ -20,7 +20,7 @@ fn basis_for<F: Field>(opened: &Opened, shares: &[u16]) -> Basis
     requires over { opened.now.code.q ≡ F.Field.numbers.q }
     requires all { AllBelow F.Field.numbers.q shares.now }
     requires told { length shares.now ≡ opened.now.code.count }
-    ensures { Finds (basisOf F.Field.numbers (take opened.now.code.count opened.now.code.points) (take opened.now.code.count opened.now.code.multipliers) opened.now.code.threshold shares.now) opened.now.setting.radius result }
+    ensures { Finds (the_basis F.Field.numbers (take opened.now.code.count opened.now.code.points) (take opened.now.code.count opened.now.code.multipliers) opened.now.code.threshold shares.now) opened.now.setting.radius result }
 {
     let code = &opened.code;
     find_basis::<F>(

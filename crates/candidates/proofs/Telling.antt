@@ -1,9 +1,9 @@
 -- A candidate is fixed by its word; and what a sift answers is the one candidate that passes.
-use Rattle.std.proofs.Common.{◌≡◌, ℕ, ◌<◌, ◌≤◌, List, length, get_or, Some, None, sym, ap, ◌∙◌, subst, ⊎_elim, arith}
+use Rattle.std.proofs.Common.{◌≡◌, ℕ, ◌<◌, ◌≤◌, List, length, get_or, Some, None, sym, ap, ◌∙◌, ⊎_elim, arith}
 use Rattle.std.proofs.lemmas.List.{ext_get_or}
 use Rattle.std.proofs.lemmas.Bool.{cases_lt}
 use Rattle.decoding.specs.Code.{Code}
-use Rattle.decoding.specs.Words.{Same, differ, distance, Codeword}
+use Rattle.decoding.specs.Words.{Same, differ, Codeword}
 use Rattle.decoding.proofs.Words.{message_unique, distance_same}
 use Rattle.fields.specs.Numbers.{Numbers, AllBelow, Element, elem_inj, field_of}
 use Rattle.polynomials.specs.Series.{poly}

@@ -1,6 +1,6 @@
 -- The order of candidates is total.
-use Rattle.std.specs.Prelude.{◌≡◌, ℕ, Bool, List, nat_lt}
-use Rattle.std.proofs.Common.{ap, ap₂, sym, ◌∙◌}
+use Rattle.std.specs.Prelude.{◌≡◌, ℕ, List, nat_lt}
+use Rattle.std.proofs.Common.{ap₂}
 use Rattle.rolls.specs.Order.{TotalOrder, before, dictionary}
 use Rattle.rolls.proofs.Orders.{in_turn_total, dictionary_total, ltb_total}
 use Rattle.candidates.specs.declared.records.Candidate.{Candidate}

@@ -3,7 +3,7 @@ use Rattle.std.proofs.Common.{◌≡◌, ℕ, suc, ◌-◌, ◌<◌, List, [], �
 use Rattle.std.proofs.lemmas.List.FromFn.{get_or-map-range_with_len}
 use Rattle.algebra.specs.Poly.{ev}
 use Rattle.fields.specs.Numbers.{Numbers, AllBelow, Element, elem, elem_add, elem_mul, elem_inj, pos, plus, times, ring_of, field_of}
-use Rattle.decoding.specs.Code.{Code, codeword as codewordOf}
+use Rattle.decoding.specs.Code.{Code, codeword as codeword_of}
 use Rattle.codes.specs.Valid.{Valid, NonZero, Distinct}
 use Rattle.codes.specs.Codewords.{value, codeword, Meant, CodewordsMeant}
 use Rattle.codes.proofs.Issued.{at_place}
@@ -51,7 +51,7 @@ module _ (F : Numbers) where
         }
 
     word : (message : List ℕ) → length message ≡ k → AllBelow F.q message → (j : ℕ) → j < n
-        → elem F (get_or (codeword F points multipliers message) j 0) ≡ codewordOf (field_of F) theory_code k (read message) j
+        → elem F (get_or (codeword F points multipliers message) j 0) ≡ codeword_of (field_of F) theory_code k (read message) j
     unfolding theory_code
     word message m b j h =
         ap (elem F) (get_or-map-range_with_len (at_place F points multipliers message) 0 (length points) j j 0 (omega arith) (omega arith))

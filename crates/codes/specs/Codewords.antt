@@ -3,7 +3,7 @@
 use Rattle.std.specs.Prelude.{◌≡◌, ℕ, ◌-◌, ◌<◌, not, List, [], ◌∷◌, ◌++◌, map, length, take, drop, Some, None, Option, ◌==◌, nat_le, nat_lt, slice_index}
 use Rattle.std.specs.List.{range_with_len}
 use Rattle.fields.specs.Numbers.{Numbers, AllBelow, elem, field_of}
-use Rattle.decoding.specs.Code.{Code, codeword as codewordOf}
+use Rattle.decoding.specs.Code.{Code, codeword as the_codeword}
 use Rattle.faults.specs.declared.ListingFault.{ListingFault}
 use Rattle.faults.specs.declared.ListingFault.TheVariants.{MessageLength, NotAnElement, ResultArea}
 use Rattle.codes.specs.First.{or_else, when, mapped, first_below}
@@ -51,7 +51,7 @@ pub record Meant (F : Numbers) (n k : ℕ) (points multipliers : List ℕ) : Typ
   pub point : (j : ℕ) → code.α j ≡ elem F (slice_index points j)
   pub multiplier : (j : ℕ) → code.v j ≡ elem F (slice_index multipliers j)
   pub word : (message : List ℕ) → length message ≡ k → AllBelow F.q message → (j : ℕ) → j < n
-      → elem F (slice_index (codeword F points multipliers message) j) ≡ codewordOf (field_of F) code k (λ i. elem F (slice_index message i)) j
+      → elem F (slice_index (codeword F points multipliers message) j) ≡ the_codeword (field_of F) code k (λ i. elem F (slice_index message i)) j
 
 abbrev pub CodewordsMeant : Type 0
 CodewordsMeant =

@@ -1,6 +1,6 @@
 ghost use Rattle.std.specs.Prelude.{◌≡◌, ◌<◌, ◌≤◌, ◌++◌, length, drop, IfSome};
 ghost use Rattle.codes.specs.Opening.{fault_of};
-ghost use Rattle.codes.specs.Codewords.{value as value_of_lem, codeword, codeword_of, first_beyond, message_fault, issue_fault, area_after};
+ghost use Rattle.codes.specs.Codewords.{value as value_of, codeword, codeword_of, first_beyond, message_fault, issue_fault, area_after};
 
 use crate::Code;
 use faults::ListingFault;
@@ -8,7 +8,7 @@ use fields::Field;
 
 // The value of the message at x.
 fn value<F: Field>(x: u16, message: &[u16]) -> u16
-    ensures { result ≡ value_of_lem F.Field.numbers x message.now }
+    ensures { result ≡ value_of F.Field.numbers x message.now }
 {
     let mut sum = 0;
     for i in (0..message.len()).rev() {

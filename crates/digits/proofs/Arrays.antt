@@ -72,7 +72,7 @@ module _ (F : Numbers) where
               past F (take w ys) k (let z = length-take w ys in omega arith)
               ∙ sym (past F (take w xs) k (let z = length-take w xs in omega arith))
               ∙ multiple_zero F (get_or (take w xs) k 0) e (get_or (up t next) k 0) (all_at F (take w xs) (all_take w xs all) k) he
-              (past F (up t next) k (let long-up = up_length t next in let n = next_length in omega arith))
+              (past F (up t next) k (let long_up = up_length t next in let n = next_length in omega arith))
 
       pub first_reads : Reads F (take w ys) (plus_shifted F (poly F (take w xs)) e t (poly F next))
       first_reads =

@@ -94,7 +94,7 @@ module _ (F : Numbers) (ℓ N t : ℕ) (front : List ℕ) (T : ℕ → ℕ → E
       at_end from to e a h w =
           walked_as visits w (λ d x. x.0) (λ d x. (x, let most = a.most (get_or d t 0) (head d inside x).0 (root d x) in omega arith))
 
-      module _ (e : ℕ) (he : e < F.q) (zero_at : at (ring_of F) (elem F e) n p ≡ (ring_of F).𝟘) (front' : List ℕ) (begins : front' ≡ front ++ e ∷ []) (long-front : length front ≡ t) where
+      module _ (e : ℕ) (he : e < F.q) (zero_at : at (ring_of F) (elem F e) n p ≡ (ring_of F).𝟘) (front' : List ℕ) (begins : front' ≡ front ++ e ∷ []) (long_front : length front ≡ t) where
         down : (d : List ℕ) → Ends F ℓ N t front T d → get_or d t 0 ≡ e → Ends F ℓ N (t + 1) front' (after e) d
         down d x q =
             let l = x.long in
@@ -110,7 +110,7 @@ module _ (F : Numbers) (ℓ N t : ℕ) (front : List ℕ) (T : ℕ → ℕ → E
         digit d x =
             sym (get_or-take (t + 1) d t 0 (omega arith))
             ∙ ap (λ (z : List ℕ). get_or z t 0) (x.begins ∙ begins)
-            ∙ get_or_at front e [] 0 t long-front
+            ∙ get_or_at front e [] 0 t long_front
 
         back : (d : List ℕ) → Ends F ℓ N (t + 1) front' (after e) d → Ends F ℓ N t front T d
         back d x =
@@ -119,7 +119,7 @@ module _ (F : Numbers) (ℓ N t : ℕ) (front : List ℕ) (T : ℕ → ℕ → E
             record {
               long = x.long;
               begins =
-                  sym (take-take t (t + 1) d (omega arith)) ∙ ap (take t) (x.begins ∙ begins) ∙ take_at front (e ∷ []) t long-front;
+                  sym (take-take t (t + 1) d (omega arith)) ∙ ap (take t) (x.begins ∙ begins) ∙ take_at front (e ∷ []) t long_front;
               steps =
                   subst (Steps F ℓ t T) (sym (drop_more d t 0 (omega arith) ∙ ap (λ (k : ℕ). k ∷ drop (t + 1) d) q))
                   (he, dec.allowed (elem F e) zero_at, subst (λ (k : ℕ). Steps F ℓ k (after e) (drop (t + 1) d)) (add-one t) x.steps);

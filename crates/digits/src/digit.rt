@@ -3,7 +3,7 @@ ghost use Rattle.std.specs.Prelude.{◌≡◌, ℕ, suc, ◌+◌, ◌-◌, ◌*�
 ghost use Rattle.algebra.specs.Poly.{at as value_at};
 ghost use Rattle.fields.specs.Numbers.{AllBelow, Element, elem, ring_of};
 ghost use Rattle.polynomials.specs.Series.{poly, Reads, value};
-ghost use Rattle.digits.specs.Runs.{runs as runsOf, Held};
+ghost use Rattle.digits.specs.Runs.{runs as runs_of, Held};
 ghost use Rattle.digits.specs.Digits.{column, Allowed, Decides, Among};
 
 use super::Shape;
@@ -15,7 +15,7 @@ fn gather<F: Field>(runs: &[u16], shape: Shape, t: usize, m: usize, out: &mut [u
     requires held { Held F.Field.numbers shape runs.now }
     requires inside { m < shape.width }
     requires long { length out.old ≡ shape.degree + 1 }
-    ensures { Reads F.Field.numbers out.new (column (ring_of F.Field.numbers) t m (runsOf F.Field.numbers shape.width runs.now)) }
+    ensures { Reads F.Field.numbers out.new (column (ring_of F.Field.numbers) t m (runs_of F.Field.numbers shape.width runs.now)) }
 {
     out[0] = runs[m];
     if shape.degree == 0 {
@@ -35,7 +35,7 @@ fn digit_polynomial<F: Field>(runs: &[u16], shape: Shape, t: usize, out: &mut [u
     requires place { t ≤ shape.depth }
     requires long { length out.old ≡ shape.degree + 1 }
     ensures all { AllBelow F.Field.numbers.q out.new }
-    ensures decides { Decides (ring_of F.Field.numbers) shape.degree t (runsOf F.Field.numbers shape.width runs.now) (suc shape.degree) (poly F.Field.numbers out.new) }
+    ensures decides { Decides (ring_of F.Field.numbers) shape.degree t (runs_of F.Field.numbers shape.width runs.now) (suc shape.degree) (poly F.Field.numbers out.new) }
 {
     clear::<F>(out);
     for m in 0..shape.size {
@@ -53,7 +53,7 @@ pub(crate) fn next_digit<F: Field>(runs: &[u16], shape: Shape, t: usize) -> [u16
     requires few { shape.degree < 9 }
     ensures long { length result ≡ 9 }
     ensures all { AllBelow F.Field.numbers.q result }
-    ensures decides { Decides (ring_of F.Field.numbers) shape.degree t (runsOf F.Field.numbers shape.width runs.now) 9 (poly F.Field.numbers result) }
+    ensures decides { Decides (ring_of F.Field.numbers) shape.degree t (runs_of F.Field.numbers shape.width runs.now) 9 (poly F.Field.numbers result) }
 {
     let mut out = [0; 9];
     let n = shape.degree + 1;

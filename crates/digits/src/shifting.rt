@@ -6,7 +6,7 @@ ghost use Rattle.algebra.specs.Taylor.{taylor};
 ghost use Rattle.algebra.proofs.Sweep.{sweep as swept};
 ghost use Rattle.fields.specs.Numbers.{AllBelow, elem, ring_of};
 ghost use Rattle.polynomials.specs.Series.{poly, Reads, plus_shifted};
-ghost use Rattle.digits.specs.Runs.{runs as runsOf, term, Held};
+ghost use Rattle.digits.specs.Runs.{runs as runs_of, term, Held};
 
 use super::Shape;
 use fields::Field;
@@ -31,7 +31,7 @@ fn sweep<F: Field>(runs: &mut [u16], shape: Shape, e: u16, t: usize)
     requires place { t ≤ shape.depth }
     requires held { Held F.Field.numbers shape runs.old }
     ensures held { Held F.Field.numbers shape runs.new }
-    ensures is { runsOf F.Field.numbers shape.width runs.new ≡ swept (Poly (ring_of F.Field.numbers)) (term (ring_of F.Field.numbers) (elem F.Field.numbers e) t) shape.degree (runsOf F.Field.numbers shape.width runs.old) }
+    ensures is { runs_of F.Field.numbers shape.width runs.new ≡ swept (Poly (ring_of F.Field.numbers)) (term (ring_of F.Field.numbers) (elem F.Field.numbers e) t) shape.degree (runs_of F.Field.numbers shape.width runs.old) }
 {
     if shape.degree == 0 {
         return;
@@ -48,7 +48,7 @@ pub(crate) fn shift<F: Field>(runs: &mut [u16], shape: Shape, e: u16, t: usize)
     requires place { t ≤ shape.depth }
     requires held { Held F.Field.numbers shape runs.old }
     ensures held { Held F.Field.numbers shape runs.new }
-    ensures is { runsOf F.Field.numbers shape.width runs.new ≡ taylor (Poly (ring_of F.Field.numbers)) (suc shape.degree) (term (ring_of F.Field.numbers) (elem F.Field.numbers e) t) (runsOf F.Field.numbers shape.width runs.old) }
+    ensures is { runs_of F.Field.numbers shape.width runs.new ≡ taylor (Poly (ring_of F.Field.numbers)) (suc shape.degree) (term (ring_of F.Field.numbers) (elem F.Field.numbers e) t) (runs_of F.Field.numbers shape.width runs.old) }
 {
     if shape.degree == 0 {
         return;

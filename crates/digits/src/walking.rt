@@ -1,7 +1,7 @@
 // The walk: every series of digits, each allowed after those before it.
 ghost use Rattle.std.specs.Prelude.{◌≡◌, ℕ, ◌+◌, ◌<◌, ◌≤◌, List, length, take};
 ghost use Rattle.fields.specs.Numbers.{AllBelow};
-ghost use Rattle.digits.specs.Runs.{runs as runsOf, Held};
+ghost use Rattle.digits.specs.Runs.{runs as runs_of, Held};
 ghost use Rattle.digits.specs.Walks.{Taken, Walked, Ends};
 
 use super::Shape;
@@ -39,11 +39,11 @@ pub fn walk<F: Field, L: Leaf>(
     requires all { AllBelow F.Field.numbers.q digits.old }
     requires takes { Taken F.Field.numbers L.Leaf.takes (length digits.old) leaf.old }
     ensures held { Held F.Field.numbers shape runs.new }
-    ensures same { runsOf F.Field.numbers shape.width runs.new ≡ runsOf F.Field.numbers shape.width runs.old }
+    ensures same { runs_of F.Field.numbers shape.width runs.new ≡ runs_of F.Field.numbers shape.width runs.old }
     ensures front { take t digits.new ≡ take t digits.old }
     ensures all { AllBelow F.Field.numbers.q digits.new }
     ensures takes { Taken F.Field.numbers L.Leaf.takes (length digits.old) leaf.new }
-    ensures walked { Walked L.Leaf.visits (Ends F.Field.numbers shape.degree (length digits.old) t (take t digits.old) (runsOf F.Field.numbers shape.width runs.old)) leaf.old leaf.new }
+    ensures walked { Walked L.Leaf.visits (Ends F.Field.numbers shape.degree (length digits.old) t (take t digits.old) (runs_of F.Field.numbers shape.width runs.old)) leaf.old leaf.new }
 {
     if t == digits.len() {
         leaf.visit(digits);

@@ -1,5 +1,5 @@
 -- The choice of a pivot, by the ranks of the rows (their weighted degrees) and by their values. A row is in use if its rank is below the bound.
-use Rattle.std.specs.Prelude.{◌≡◌, ℕ, ◌<◌, ◌≤◌, ◌≢◌, ◌⊎◌, List, Option, MatchOption, slice_index, slice_index_or}
+use Rattle.std.specs.Prelude.{◌≡◌, ℕ, ◌<◌, ◌≤◌, ◌≢◌, ◌⊎◌, List, Option, MatchOption, slice_index}
 
 -- of the first k rows those in use have the value 0
 abbrev pub NoneFails : (ranks values : List ℕ) → (bound k : ℕ) → Type 0
@@ -8,8 +8,8 @@ NoneFails ranks values bound k = (j : ℕ) → j < k → slice_index ranks j < b
 -- or p is, of those in use with another value, the first of the least rank
 pub record LeastFails (ranks values : List ℕ) (bound k p : ℕ) : Type 0 where
   pub inside : p < k
-  pub live : slice_index_or ranks p 0 < bound
-  pub fails : slice_index_or values p 0 ≢ 0
+  pub live : slice_index ranks p < bound
+  pub fails : slice_index values p ≢ 0
   pub least : (j : ℕ) → j < k → slice_index ranks j < bound → slice_index values j ≢ 0 → slice_index ranks p ≤ slice_index ranks j
   pub tie : (j : ℕ) → j < k → slice_index ranks j < bound → slice_index values j ≢ 0 → slice_index ranks p ≡ slice_index ranks j → p ≤ j
 

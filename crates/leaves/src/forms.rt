@@ -6,7 +6,7 @@ ghost use Rattle.algebra.specs.Sums.{pow};
 ghost use Rattle.algebra.specs.Taylor.{form};
 ghost use Rattle.fields.specs.Numbers.{AllBelow, elem, ring_of};
 ghost use Rattle.polynomials.specs.Series.{poly, Reads};
-ghost use Rattle.digits.specs.Runs.{runs as runsOf};
+ghost use Rattle.digits.specs.Runs.{runs as runs_of};
 
 use fields::Field;
 use polynomials::{add_multiple, multiply_into, size};
@@ -72,7 +72,7 @@ fn evaluate_form<F: Field>(
     requires sum_long { length sum.old ≡ width + degree * (length z.now - 1) }
     requires power_long { length power.old ≡ 1 + degree * (length z.now - 1) }
     requires room_long { length sum.old ≤ length room.old }
-    ensures sum { Reads F.Field.numbers sum.new (form (Poly (ring_of F.Field.numbers)) degree (runsOf F.Field.numbers width runs.now) (poly F.Field.numbers y.now) (poly F.Field.numbers z.now)) }
+    ensures sum { Reads F.Field.numbers sum.new (form (Poly (ring_of F.Field.numbers)) degree (runs_of F.Field.numbers width runs.now) (poly F.Field.numbers y.now) (poly F.Field.numbers z.now)) }
     ensures power { Reads F.Field.numbers power.new (pow (Poly (ring_of F.Field.numbers)) (poly F.Field.numbers z.now) degree) }
 {
     if degree == 0 {
@@ -113,7 +113,7 @@ pub fn vanishes<F: Field>(
     requires same { length f2.now ≡ length f1.now }
     requires some { 0 < length f1.now }
     requires work { 3 * (width + degree * (length f1.now - 1)) ≤ length work.old }
-    ensures { T result ↔ (form (Poly (ring_of F.Field.numbers)) degree (runsOf F.Field.numbers width runs.now) (poly F.Field.numbers f2.now) (poly F.Field.numbers f1.now) ≡ pzero (ring_of F.Field.numbers)) }
+    ensures { T result ↔ (form (Poly (ring_of F.Field.numbers)) degree (runs_of F.Field.numbers width runs.now) (poly F.Field.numbers f2.now) (poly F.Field.numbers f1.now) ≡ pzero (ring_of F.Field.numbers)) }
 {
     let rise = degree * (f1.len() - 1);
     let (sum, rest) = work.split_at_mut(width + rise);

@@ -6,7 +6,7 @@ ghost use Rattle.algebra.specs.Taylor.{form};
 ghost use Rattle.fields.specs.Numbers.{AllBelow, elem, ring_of};
 ghost use Rattle.polynomials.specs.Series.{poly, Reads};
 ghost use Rattle.basis.specs.Rows.{Room};
-ghost use Rattle.digits.specs.Runs.{runs as runsOf};
+ghost use Rattle.digits.specs.Runs.{runs as runs_of};
 ghost use Rattle.leaves.specs.Normalised.{Normalised};
 ghost use Rattle.leaves.specs.Reached.{Reconstructs, Candidate, Full, Reached, Exact};
 
@@ -117,7 +117,7 @@ fn is_root<F: Field>(
     requires first_small { Below (ring_of F.Field.numbers) n (poly F.Field.numbers f1.now) }
     requires second_small { Below (ring_of F.Field.numbers) n (poly F.Field.numbers f2.now) }
     requires work { 3 * (width + degree * (n - 1)) ≤ length work.old }
-    ensures { T result ↔ ((poly F.Field.numbers f1.now 0 ≢ elem F.Field.numbers 0) × (form (Poly (ring_of F.Field.numbers)) degree (runsOf F.Field.numbers width runs.now) (poly F.Field.numbers f2.now) (poly F.Field.numbers f1.now) ≡ pzero (ring_of F.Field.numbers))) }
+    ensures { T result ↔ ((poly F.Field.numbers f1.now 0 ≢ elem F.Field.numbers 0) × (form (Poly (ring_of F.Field.numbers)) degree (runs_of F.Field.numbers width runs.now) (poly F.Field.numbers f2.now) (poly F.Field.numbers f1.now) ≡ pzero (ring_of F.Field.numbers))) }
 {
     f1[0] != 0 && vanishes::<F>(runs, width, degree, &f1[0..n], &f2[0..n], work)
 }
@@ -154,8 +154,8 @@ pub fn root_at_leaf<F: Field>(
     requires long { length runs.now ≡ (degree + 1) * width }
     requires wide { 0 < width }
     requires work { 3 * (width + degree * 31) ≤ length work.old }
-    ensures leaf { Reached F.Field.numbers chart degree w1 w2 (runsOf F.Field.numbers width runs.now) digits.now result }
-    ensures exact { Exact F.Field.numbers chart degree w1 w2 (runsOf F.Field.numbers width runs.now) digits.now result }
+    ensures leaf { Reached F.Field.numbers chart degree w1 w2 (runs_of F.Field.numbers width runs.now) digits.now result }
+    ensures exact { Exact F.Field.numbers chart degree w1 w2 (runs_of F.Field.numbers width runs.now) digits.now result }
 {
     let pair = candidate::<F>(digits, w1, w2);
     let n = w1.max(w2) + 1;

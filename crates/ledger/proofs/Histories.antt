@@ -13,7 +13,7 @@ use Rattle.collections.specs.declared.Place.TheVariants.{Empty, Filled}
 use Rattle.collections.specs.Book.{Book, unopened, opened, Act, opening, entering, withdrawing, reading, place_check, place_in, check, writes, accepts, said_by, left_by, Said, done, told}
 use Rattle.collections.proofs.Fairness.{no_fault, neither_left, neither_right, test_failed}
 use Rattle.sheets.specs.Sheet.{sheet_of, header_fault, field_fault}
-use Rattle.transfer.specs.Loading.{acts_of, first_refused, all_written, load_fault, loaded, said_by as saidLoading, left_by as leftLoading}
+use Rattle.transfer.specs.Loading.{acts_of, first_refused, all_written, load_fault, loaded, said_by as said_loading, left_by as left_loading}
 use Rattle.ledger.specs.declared.Call.{Call}
 use Rattle.ledger.specs.declared.Call.TheVariants.{Open, Load, Enter, Withdraw, Read}
 use Rattle.ledger.specs.Law.{Reply, tells, refuses, plain, with_byte, Acted, LoadedBy, Answered, Runs, stop, go}
@@ -97,7 +97,7 @@ load_passed q tag b bs e =
     let later : or_else (field_fault tag s) last ≡ None = neither_right (header_fault bs) (or_else (field_fault tag s) last) e in
     not_carried (first_refused q b (acts_of s)) (neither_right (field_fault tag s) last later)
 
-load_by : (q tag p : ℕ) (b : Book) (bs : List ℕ) (o : Option SheetFault) → load_fault q tag b bs ≡ o → place_in (leftLoading o (loaded b bs) b) p ≡ default (latest p (cond (is_accepted (with_byte (saidLoading o))) (acts_of (sheet_of bs)) [])) (place_in b p)
+load_by : (q tag p : ℕ) (b : Book) (bs : List ℕ) (o : Option SheetFault) → load_fault q tag b bs ≡ o → place_in (left_loading o (loaded b bs) b) p ≡ default (latest p (cond (is_accepted (with_byte (said_loading o))) (acts_of (sheet_of bs)) [])) (place_in b p)
 load_by q tag p b bs None e = acts_make q p b (acts_of (sheet_of bs)) (load_passed q tag b bs e)
 load_by q tag p b bs (Some f) e = refl
 

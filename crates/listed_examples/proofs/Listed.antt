@@ -1,5 +1,5 @@
 -- The listings of the worked shares, by trying every message.
-use Rattle.std.proofs.Common.{◌≡◌, refl, arith}
+use Rattle.std.proofs.Common.{refl, arith}
 use Rattle.algebra.specs.Sums.{count}
 use Rattle.codes.specs.Codewords.{value}
 use Rattle.stages.specs.Coefficients.{size_to, less, sum, product, power}

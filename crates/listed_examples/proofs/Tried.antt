@@ -1,5 +1,5 @@
 -- Trying every message: where the records of the messages near the shares stand in order, they are the listing of the shares.
-use Rattle.std.proofs.Common.{◌≡◌, ℕ, zero, suc, ◌+◌, ◌<◌, ◌≤◌, Bool, true, false, cond, leb, ◌⊎◌, List, [], ◌∷◌, ◌++◌, map, length, get_or, filter, sym, refl, ap, ◌∙◌, subst, inl, inr, ⊎_elim, arith, le-leb, leb-true}
+use Rattle.std.proofs.Common.{◌≡◌, ℕ, zero, suc, ◌+◌, ◌<◌, ◌≤◌, Bool, true, false, cond, leb, ◌⊎◌, List, [], ◌∷◌, ◌++◌, map, length, filter, sym, refl, ap, ◌∙◌, subst, inl, inr, arith, le-leb, leb-true}
 use lib.ListN.{length-map}
 use Rattle.std.specs.List.{range_with_len as counting}
 use Rattle.fields.specs.Numbers.{Numbers, AllBelow}

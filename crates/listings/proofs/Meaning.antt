@@ -1,14 +1,13 @@
 -- The records near the shares are the candidates of the decoder's theory: `Within`, by numbers alone, and `Close`, by the theory's code, say the same.
-use Rattle.std.proofs.Common.{◌≡◌, ℕ, ◌+◌, ◌-◌, ◌<◌, ◌≤◌, List, ◌++◌, length, get_or, take, replicate, sym, refl, ap, ◌∙◌, subst, ⊎_elim, arith, length-append, length-take, get_or-take}
+use Rattle.std.proofs.Common.{◌≡◌, ℕ, ◌-◌, ◌<◌, ◌≤◌, List, length, get_or, take, replicate, sym, refl, ap, ◌∙◌, subst, ⊎_elim, arith, length-append, length-take, get_or-take}
 use mathlib.Core.Path.{fun_ext}
 use lib.ListN.{length-replicate, get_or-eq_default}
 use Rattle.std.proofs.lemmas.List.{get_or_append_left, get_or-append_right, get_or-replicate}
 use Rattle.std.proofs.lemmas.Bool.{cases_lt}
 use Rattle.std.proofs.lemmas.List.FromFn.{length-map-range_with_len, get_or-map-range_with_len}
-use Rattle.decoding.specs.Code.{Code, codeword as codewordOf}
-use Rattle.decoding.specs.Words.{Same, distance as distance_of, Codeword, Near}
-use Rattle.decoding.proofs.Words.{distance_same}
-use Rattle.fields.specs.Numbers.{Numbers, AllBelow, Element, elem, field_of, pos}
+use Rattle.decoding.specs.Code.{codeword as codeword_of}
+use Rattle.decoding.specs.Words.{Same, distance as distance_of}
+use Rattle.fields.specs.Numbers.{Numbers, AllBelow, Element, elem, field_of}
 use Rattle.polynomials.specs.Series.{poly}
 use Rattle.polynomials.proofs.Readings.{all_at, poly_at}
 use Rattle.codes.specs.Opening.{Given}
@@ -18,7 +17,7 @@ use Rattle.stages.specs.Words.{distance}
 use Rattle.stages.proofs.Words.{distance_reads}
 use Rattle.sift.specs.Received.{Ends}
 use Rattle.sift.proofs.Recovery.{ends_below}
-use Rattle.rolls.specs.Order.{Has, Lists}
+use Rattle.rolls.specs.Order.{Lists}
 use Rattle.candidates.specs.declared.records.Candidate.{Candidate}
 use Rattle.candidates.specs.Order.{in_order}
 use Rattle.candidates.specs.Telling.{Tells, Close}
@@ -75,12 +74,12 @@ module _ (F : Numbers) where
     module _ (message : List ℕ) (count : length message ≡ g.threshold) (elements : AllBelow F.q message) where
       -- the theory's word of the message
       reads_word : Same M.code.n (poly F (padded (codeword F g.points g.multipliers message)))
-          (codewordOf (field_of F) M.code g.threshold (poly F (padded message)))
+          (codeword_of (field_of F) M.code g.threshold (poly F (padded message)))
       unfolding poly
       reads_word j h =
           ap (elem F) (padded_at (codeword F g.points g.multipliers message) j)
           ∙ M.word message count elements j (let e = M.places in omega arith)
-          ∙ ap (λ (p : ℕ → Element F). codewordOf (field_of F) M.code g.threshold p j) (fun_ext (λ i. ap (elem F) (sym (padded_at message i))))
+          ∙ ap (λ (p : ℕ → Element F). codeword_of (field_of F) M.code g.threshold p j) (fun_ext (λ i. ap (elem F) (sym (padded_at message i))))
 
       pub tells_message : Tells F M.code g.threshold (poly F rs) (candidate_of F g rs message)
       tells_message =
@@ -149,7 +148,7 @@ module _ (F : Numbers) where
         same : Same M.code.n (poly F c.word) (poly F (padded (codeword F g.points g.multipliers m)))
         same j h =
             x.tells.issued j h
-            ∙ ap (λ (p : ℕ → Element F). codewordOf (field_of F) M.code g.threshold p j) (sym read)
+            ∙ ap (λ (p : ℕ → Element F). codeword_of (field_of F) M.code g.threshold p j) (sym read)
             ∙ sym (t.issued j h)
 
     -- a list of the ones is a list of the others

@@ -1,7 +1,7 @@
 // From the basis of received shares to the pairs that are sifted.
 ghost use Rattle.std.specs.Prelude.{◌≡◌, ◌≤◌, length, take};
 ghost use Rattle.fields.specs.Numbers.{AllBelow};
-ghost use Rattle.stages.specs.Basis.{basis as basisOf};
+ghost use Rattle.stages.specs.Basis.{basis as basis_of};
 ghost use Rattle.basis.specs.Found.{Finds};
 ghost use Rattle.interpolant.specs.Problems.{Enough};
 ghost use Rattle.pairs.specs.Stage.{unit_pair, RootsOf, Fits, Listable, ToSift};
@@ -67,7 +67,7 @@ pub fn find_pairs<F: Field>(
     work: &mut [u16],
 ) -> usize
     requires given { Listable F.Field.numbers received.points.now received.multipliers.now threshold received.shares.now setting }
-    requires found { Finds (basisOf F.Field.numbers received.points.now received.multipliers.now threshold received.shares.now) setting.radius basis.now }
+    requires found { Finds (basis_of F.Field.numbers received.points.now received.multipliers.now threshold received.shares.now) setting.radius basis.now }
     requires records { setting.list_limit ≤ length pairs.old }
     requires numbers { 32000 ≤ length work.old }
     ensures count { result ≤ setting.list_limit }

@@ -1,5 +1,5 @@
 -- What the stages list is the listing of the shares.
-use Rattle.std.proofs.Common.{◌≡◌, ℕ, ◌+◌, ◌-◌, ◌<◌, ◌≤◌, List, ◌++◌, length, take, replicate, None, sym, refl, ◌∙◌, subst, arith, length-take}
+use Rattle.std.proofs.Common.{◌≡◌, ℕ, ◌+◌, ◌-◌, ◌≤◌, List, ◌++◌, length, take, replicate, None, sym, refl, subst, arith, length-take}
 use Rattle.fields.specs.Numbers.{Numbers, AllBelow}
 use Rattle.codes.specs.Opening.{Given, first_fault}
 use Rattle.codes.specs.Exact.{Fit}

@@ -1,5 +1,5 @@
 -- What an open collection and the shares of a source give the stages: all that they ask for.
-use Rattle.std.proofs.Common.{◌≡◌, ℕ, ◌+◌, ◌<◌, ◌≤◌, Bool, true, false, cond, ltb, List, length, None, sym, refl, subst, arith, ltb-false}
+use Rattle.std.proofs.Common.{◌≡◌, ℕ, ◌≤◌, Bool, true, false, cond, ltb, List, length, None, sym, subst, arith, ltb-false}
 use Rattle.fields.specs.Numbers.{Numbers, AllBelow}
 use Rattle.faults.specs.declared.ListingFault.TheVariants.{ResultArea, WorkArea}
 use Rattle.codes.specs.declared.Setting.{Setting}

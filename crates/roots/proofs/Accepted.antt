@@ -1,13 +1,11 @@
 -- What a question has that nothing refuses, and how it fits the work area.
-use Rattle.std.proofs.Common.{◌≡◌, ℕ, suc, ◌+◌, ◌-◌, ◌*◌, ◌<◌, ◌≤◌, Bool, true, false, cond, not, eqb, ltb, leb, List, [], ◌∷◌, length, get_or, Some, None, Option, sym, refl, ap, ◌∙◌, subst, mul-le-mul_right, mul-le-mul_left, arith, ltb-false, eqb-true, leb-false}
+use Rattle.std.proofs.Common.{◌≡◌, ℕ, ◌+◌, ◌*◌, ◌≤◌, Bool, true, false, not, eqb, ltb, leb, length, get_or, None, refl, mul-le-mul_right, arith, ltb-false, eqb-true, leb-false}
 use borrow.Author.Tests.{eqb-false}
 use Rattle.codes.specs.First.{or_else, when, mapped}
 use Rattle.codes.proofs.Firsts.{when_none, or_else_none, mapped_none, below_none}
 use Rattle.codes.specs.Codewords.{first_beyond}
-use Rattle.fields.specs.Numbers.{AllBelow}
-use Rattle.faults.specs.declared.ListingFault.{ListingFault}
-use Rattle.faults.specs.declared.ListingFault.TheVariants.{Shape, NotAnElement, ZeroForm, ResultArea, WorkArea}
-use Rattle.roots.specs.Asked.{Asked, all_zero, shape_fault, numbers_fault, areas_fault, roots_fault, need, Sized, Answerable}
+use Rattle.faults.specs.declared.ListingFault.TheVariants.{Shape, NotAnElement, ResultArea}
+use Rattle.roots.specs.Asked.{Asked, shape_fault, numbers_fault, areas_fault, roots_fault, need, Sized, Answerable}
 
 -- bounds of the runs, of the form and of a leaf's polynomials, and of the sum of all
 module _ (ℓ c w₁ w₂ : ℕ) (few : ℓ ≤ 8) (short : c ≤ 400) (h₁ : w₁ ≤ 31) (h₂ : w₂ ≤ 31) where

@@ -1,25 +1,22 @@
 -- Each root is wanted at some end of one of the two walks: that of the form, if f₁ (0) is not zero, and else that of the turned form.
-use Rattle.std.proofs.Common.{◌≡◌, ℕ, suc, ◌+◌, ◌-◌, ◌*◌, ◌<◌, ◌≤◌, ◌≢◌, ◌⊎◌, List, [], ◌∷◌, length, sym, refl, ap, ◌∙◌, subst, inl, inr, arith}
+use Rattle.std.proofs.Common.{◌≡◌, ℕ, suc, ◌-◌, ◌≤◌, ◌≢◌, ◌⊎◌, List, [], ap, ◌∙◌, inl, inr, arith}
 use Rattle.algebra.specs.Ring.{Ring}
-use Rattle.algebra.specs.Field.{Field}
-use Rattle.algebra.specs.Sums.{sum, pow}
-use Rattle.algebra.specs.Poly.{pzero, Below}
+use Rattle.algebra.specs.Sums.{pow}
+use Rattle.algebra.specs.Poly.{Below}
 use Rattle.algebra.specs.PolyRing.{Poly}
 use Rattle.algebra.specs.Taylor.{form}
 use Rattle.algebra.proofs.Sums.{sum_cong}
 use Rattle.algebra.proofs.Homogeneous.{form_swap}
 use Rattle.algebra.proofs.Coprime.{coprime_constant}
-use Rattle.decoding.specs.Rational.{Root}
-use Rattle.decoding.specs.Walk.{Visited, turned}
+use Rattle.decoding.specs.Walk.{turned}
 use Rattle.decoding.proofs.Digit.{prefix}
 use Rattle.decoding.proofs.Walk.{visited}
-use Rattle.fields.specs.Numbers.{Numbers, AllBelow, Element, ring_of, field_of}
+use Rattle.fields.specs.Numbers.{Numbers, Element, ring_of, field_of}
 use Rattle.polynomials.specs.Series.{poly}
-use Rattle.rolls.specs.Order.{Has, Lists}
+use Rattle.rolls.specs.Order.{Has}
 use Rattle.digits.specs.Walks.{Ends, Walked}
 use Rattle.digits.proofs.Prefixes.{visited_ends}
 use Rattle.leaves.specs.declared.pairs.Pair.{Pair}
-use Rattle.leaves.specs.Order.{in_order}
 use Rattle.roots.specs.Asked.{Asked}
 use Rattle.roots.specs.Answer.{form_of, IsRoot}
 

@@ -1,6 +1,6 @@
 -- Visits that enter what they find into a roll: the items are in order and sound, nothing wanted is lost, and the roll is never full.
-use Rattle.std.proofs.Common.{◌≡◌, ℕ, ◌<◌, ◌≤◌, Bool, true, false, cond, ltb, ◌⊎◌, List, [], ◌∷◌, ◌++◌, length, Some, None, Option, sym, refl, ap, ◌∙◌, subst, inl, inr, arith, le-ltb}
-use Rattle.rolls.specs.Order.{TotalOrder, Ascending, Has, Lists, insert}
+use Rattle.std.proofs.Common.{◌≡◌, ℕ, ◌≤◌, Bool, cond, ◌⊎◌, List, [], ◌∷◌, length, Some, None, Option, sym, refl, ap, subst, inl, inr, arith, le-ltb}
+use Rattle.rolls.specs.Order.{TotalOrder, Ascending, Has, insert}
 use Rattle.rolls.specs.Insertion.{entered}
 use Rattle.rolls.proofs.Unique.{insertion_exact}
 use Rattle.digits.specs.Walks.{Chain}

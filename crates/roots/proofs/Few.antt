@@ -1,16 +1,15 @@
 -- A form that is not zero has ℓ roots at most, so that ℓ records hold them.
-use Rattle.std.proofs.Common.{◌≡◌, ℕ, zero, suc, ◌+◌, ◌-◌, ◌*◌, ◌<◌, ◌≤◌, Bool, true, false, cond, eqb, ◌≢◌, List, [], ◌∷◌, ◌++◌, length, get_or, take, drop, sym, refl, ap, ◌∙◌, subst, ap₂, inl, inr, ⊎_elim, suc-mul, add-mul, one-mul, zero-mul, add-one, arith, length-drop, length-take, eqb-true}
+use Rattle.std.proofs.Common.{◌≡◌, ℕ, zero, suc, ◌+◌, ◌-◌, ◌*◌, ◌<◌, ◌≤◌, Bool, true, false, cond, eqb, ◌≢◌, List, [], ◌∷◌, length, get_or, drop, sym, refl, ap, ◌∙◌, inl, inr, suc-mul, add-mul, one-mul, arith, length-drop, length-take}
 use native.Mathlib.Decide.{dec_lt}
 use borrow.Author.Tests.{eqb-false}
 use Rattle.std.proofs.lemmas.List.{ext_get_or, get_or-take, get_or-drop}
-use Rattle.algebra.specs.Poly.{Below}
-use Rattle.fields.specs.Numbers.{Numbers, AllBelow, Element, elem, pos, ring_of, field_of, elem_inj}
+use Rattle.fields.specs.Numbers.{Numbers, AllBelow, Element, pos, field_of, elem_inj}
 use Rattle.polynomials.specs.Series.{poly}
 use Rattle.polynomials.proofs.Readings.{poly_at, poly_past, all_at}
 use Rattle.decoding.proofs.AtMost.{roots_at_most}
 use Rattle.rolls.specs.Order.{TotalOrder, Leads, Ascending, Has}
 use Rattle.rolls.proofs.Orders.{in_turn_total, dictionary_total}
-use Rattle.digits.specs.Runs.{run, runs}
+use Rattle.digits.specs.Runs.{run}
 use Rattle.digits.proofs.Arrays.{all_take, all_drop}
 use Rattle.leaves.specs.declared.pairs.Pair.{Pair}
 use Rattle.leaves.specs.Order.{in_order}

@@ -1,13 +1,13 @@
 -- The rolls of the two walks: after the first it has every root with f₁ (0) not zero, and after the second every root, and nothing else.
-use Rattle.std.proofs.Common.{◌≡◌, ℕ, suc, ◌+◌, ◌-◌, ◌*◌, ◌<◌, ◌≤◌, Bool, true, false, ◌≢◌, ◌⊎◌, List, [], ◌∷◌, ◌++◌, length, take, replicate, Some, None, Option, sym, refl, ap, ◌∙◌, subst, ap₂, inl, inr, arith, length-append, length-take}
+use Rattle.std.proofs.Common.{◌≡◌, ℕ, suc, ◌+◌, ◌-◌, ◌*◌, ◌≤◌, false, ◌⊎◌, List, ◌++◌, length, take, replicate, Some, None, Option, sym, refl, ap, ◌∙◌, subst, ap₂, inl, inr, arith, length-append, length-take}
 use lib.ListN.{length-replicate}
 use Rattle.std.proofs.lemmas.List.{take_at, length-take-le}
-use Rattle.fields.specs.Numbers.{Numbers, AllBelow, Element, ring_of}
+use Rattle.fields.specs.Numbers.{Numbers, AllBelow, Element}
 use Rattle.rolls.specs.Order.{Ascending, Has, Lists}
 use Rattle.rolls.specs.Insertion.{entered, cleared}
 use Rattle.rolls.proofs.Accepted.{items_after, length_after}
 use Rattle.digits.specs.Runs.{runs}
-use Rattle.digits.specs.Walks.{Ends, Walked}
+use Rattle.digits.specs.Walks.{Walked}
 use Rattle.digits.proofs.Arrays.{runs_below}
 use Rattle.leaves.specs.declared.pairs.Pair.{Pair}
 use Rattle.leaves.specs.declared.pairs.Chart.{Chart}
@@ -15,10 +15,10 @@ use Rattle.leaves.specs.declared.pairs.Chart.TheVariants.{Direct, Turned}
 use Rattle.leaves.specs.Order.{in_order}
 use Rattle.leaves.specs.Reached.{Reached}
 use Rattle.roots.specs.Asked.{Asked, all_zero}
-use Rattle.roots.specs.Answer.{form_of, IsRoot, blank, Listed}
+use Rattle.roots.specs.Answer.{IsRoot, blank, Listed}
 use Rattle.roots.specs.Desk.{Desk, desk, turned_asked, Stays, Entered, Visit, Walks}
 use Rattle.roots.proofs.Few.{pair_order, few_roots}
-use Rattle.roots.proofs.Collected.{put, Holds, holds_as, Finds, chain_holds}
+use Rattle.roots.proofs.Collected.{put, Holds, Finds, chain_holds}
 use Rattle.roots.proofs.Charts.{Wanted₁, Wanted₂, wanted_first, wanted_second, either_chart}
 use Rattle.roots.proofs.Reaching.{good_direct, wanted_direct, good_turned, wanted_turned}
 

@@ -1,26 +1,23 @@
 -- What a leaf's answer says of the roots: what it finds is one, and it finds the root whose digits it was given.
-use Rattle.std.proofs.Common.{◌≡◌, ℕ, suc, ◌+◌, ◌-◌, ◌<◌, ◌≤◌, ◌≢◌, List, [], ◌∷◌, length, Some, None, Option, sym, refl, ap, ◌∙◌, subst, ap₂, arith, MatchOption}
+use Rattle.std.proofs.Common.{◌≡◌, ℕ, suc, ◌+◌, ◌-◌, ◌≤◌, List, [], ◌∷◌, Some, None, Option, sym, refl, ap, ◌∙◌, subst, ap₂, arith}
 use Rattle.algebra.specs.Ring.{Ring}
-use Rattle.algebra.specs.Poly.{pzero}
 use Rattle.algebra.specs.PolyRing.{Poly}
 use Rattle.algebra.specs.Taylor.{form}
 use Rattle.algebra.specs.Coprime.{Normal}
 use Rattle.algebra.proofs.Homogeneous.{form_swap}
 use Rattle.algebra.proofs.Coprime.{coprime_sym}
-use Rattle.decoding.specs.Rational.{Plain, Root}
+use Rattle.decoding.specs.Rational.{Plain}
 use Rattle.decoding.specs.Walk.{LeafRows, Leaf, turned}
-use Rattle.decoding.proofs.Digit.{prefix}
 use Rattle.decoding.proofs.Walk.{leaf_root, leaf_of}
 use Rattle.algebra.specs.Poly.{conv, const, pneg}
 use Rattle.algebra.specs.Solve.{ring}
 use Rattle.algebra.specs.PolyForms.{forms}
 use Rattle.algebra.proofs.Coprime.{normal_unique}
-use Rattle.fields.specs.Numbers.{Numbers, AllBelow, Element, ring_of, field_of}
+use Rattle.fields.specs.Numbers.{Numbers, Element, ring_of, field_of}
 use Rattle.polynomials.specs.Series.{poly}
 use Rattle.leaves.specs.declared.pairs.Pair.{Pair}
-use Rattle.leaves.specs.declared.pairs.Chart.{Chart}
 use Rattle.leaves.specs.declared.pairs.Chart.TheVariants.{Direct, Turned}
-use Rattle.leaves.specs.Reached.{Full, RootAt, Reached}
+use Rattle.leaves.specs.Reached.{Full, Reached}
 use Rattle.roots.specs.Asked.{Asked}
 use Rattle.roots.specs.Answer.{form_of, IsRoot}
 use Rattle.roots.proofs.Charts.{form_cong, Wanted₁, Wanted₂}

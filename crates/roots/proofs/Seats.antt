@@ -1,10 +1,9 @@
 -- The walk of a chart: its array fits, its leaf is ready, and what its visits say of the desk.
-use Rattle.std.proofs.Common.{◌≡◌, ℕ, zero, suc, ◌+◌, ◌-◌, ◌*◌, ◌<◌, ◌≤◌, List, [], ◌∷◌, length, sym, refl, ap, ◌∙◌, subst, ap₂, mul-le-mul_right, arith}
+use Rattle.std.proofs.Common.{◌≡◌, ℕ, suc, ◌+◌, ◌*◌, ◌<◌, ◌≤◌, List, [], ◌∷◌, length, sym, refl, ap, ◌∙◌, subst, mul-le-mul_right, arith}
 use native.Mathlib.Decide.{dec_lt}
 use Rattle.algebra.specs.Poly.{pzero, Below}
 use Rattle.algebra.specs.PolyRing.{Poly}
 use Rattle.fields.specs.Numbers.{Numbers, AllBelow, Element, ring_of}
-use Rattle.polynomials.specs.Series.{poly}
 use Rattle.polynomials.proofs.Readings.{poly_past}
 use Rattle.digits.specs.declared.Shape.{Shape}
 use Rattle.digits.specs.Runs.{run, runs, Fits, Held}

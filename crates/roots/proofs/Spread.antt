@@ -1,16 +1,16 @@
 -- Copies of runs: one run with zeros after it, and all runs, by the first and the rest.
-use Rattle.std.proofs.Common.{◌≡◌, ℕ, zero, suc, ◌+◌, ◌-◌, ◌*◌, ◌<◌, ◌≤◌, List, [], ◌∷◌, ◌++◌, length, get_or, take, drop, sym, refl, ap, ◌∙◌, subst, ap₂, mul-le-mul_right, suc-mul, add-mul, one-mul, zero-mul, arith, length-append, length-drop, length-take}
+use Rattle.std.proofs.Common.{◌≡◌, ℕ, zero, suc, ◌+◌, ◌-◌, ◌*◌, ◌<◌, ◌≤◌, List, [], ◌++◌, length, get_or, take, drop, sym, ap, ◌∙◌, subst, ap₂, mul-le-mul_right, suc-mul, add-mul, one-mul, zero-mul, arith, length-append, length-drop, length-take}
 use mathlib.Core.Path.{fun_ext}
 use native.Mathlib.Decide.{dec_lt}
 use borrow.Rule.Slice.PartMut.{put_mid}
-use Rattle.std.proofs.lemmas.List.{append-nil, take_all, take_at, take-take, drop_at, drop_all, drop-drop, drop-take, get_or_append_left, get_or-append-add, get_or-drop, length-take-le}
-use Rattle.algebra.specs.Poly.{pzero, tail, cons, Below}
+use Rattle.std.proofs.lemmas.List.{append-nil, take_all, take_at, take-take, drop_at, drop_all, drop-drop, drop-take, get_or_append_left, get_or-append-add, get_or-drop}
+use Rattle.algebra.specs.Poly.{pzero, Below}
 use Rattle.algebra.specs.PolyRing.{Poly}
 use Rattle.fields.specs.Numbers.{Numbers, AllBelow, Element, elem, ring_of}
 use Rattle.polynomials.specs.Series.{poly, Reads}
 use Rattle.polynomials.proofs.Readings.{poly_at, past, all_at}
 use Rattle.digits.specs.Runs.{run, runs}
-use Rattle.digits.proofs.Arrays.{all_take, all_drop, all_join, runs_cons, runs_below, lent_take, lent_drop, part_rest}
+use Rattle.digits.proofs.Arrays.{all_join, runs_below, lent_take, lent_drop, part_rest}
 
 module _ (F : Numbers) where
   -- p, written over the first of zeros
@@ -83,7 +83,7 @@ module _ (F : Numbers) where
         subst (AllBelow F.q)
         (sym (ap (λ (l : List ℕ). last ++ l) (drop_all n out (let m = one-mul w in let q : length out ≡ (0 + 1) * w = room ∙ ap (λ (n : ℕ). (n + 1) * w) z in omega arith)) ∙ append-nil last)) r.below
 
-    module _ (ys : List ℕ) (rest-long : length ys ≡ d * w) where
+    module _ (ys : List ℕ) (rest_long : length ys ≡ d * w) where
       abbrev pub joined : List ℕ
       joined = put_mid w (length zs - w) zs ys
 
@@ -93,7 +93,7 @@ module _ (F : Numbers) where
       joined_drop : drop w joined ≡ ys
       joined_drop =
           lent_drop F w zs ys (let a = first_length in let b = wide in omega arith)
-          (let a = first_length in omega (arith, rest-long, room, add-mul d 1 w, one-mul w))
+          (let a = first_length in omega (arith, rest_long, room, add-mul d 1 w, one-mul w))
 
       pub more_all : (p : ℕ → Element F) → Reads F last p → AllBelow F.q ys → AllBelow F.q joined
       more_all p r a = all_join F w joined (subst (AllBelow F.q) (sym joined_take) r.below) (subst (AllBelow F.q) (sym joined_drop) a)

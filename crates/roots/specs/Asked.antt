@@ -1,5 +1,5 @@
 -- The question of the roots call: what it is given, and what refuses it, in the order of the checks.
-use Rattle.std.specs.Prelude.{◌≡◌, ℕ, ◌+◌, ◌*◌, ◌<◌, ◌≤◌, Bool, true, false, cond, not, List, [], ◌∷◌, length, Some, None, Option, ◌==◌, nat_lt, slice_index}
+use Rattle.std.specs.Prelude.{◌≡◌, ℕ, ◌+◌, ◌*◌, ◌<◌, ◌≤◌, Bool, true, false, cond, not, List, [], ◌∷◌, length, Option, ◌==◌, nat_lt, slice_index}
 use Rattle.fields.specs.Numbers.{AllBelow}
 use Rattle.codes.specs.First.{or_else, when, mapped}
 use Rattle.codes.specs.Codewords.{first_beyond}

@@ -2,7 +2,7 @@
 ghost use Rattle.std.specs.Prelude.{◌≡◌, ℕ, ◌+◌, ◌-◌, ◌*◌, ◌<◌, ◌≤◌, length};
 ghost use Rattle.fields.specs.Numbers.{AllBelow};
 ghost use Rattle.polynomials.specs.Series.{poly, Reads};
-ghost use Rattle.digits.specs.Runs.{runs as runsOf};
+ghost use Rattle.digits.specs.Runs.{runs as runs_of};
 
 use fields::Field;
 use polynomials::clear;
@@ -31,7 +31,7 @@ pub(crate) fn spread<F: Field>(
     requires room { length out.old ≡ (degree + 1) * width }
     requires wide { narrow ≤ width }
     ensures all { AllBelow F.Field.numbers.q out.new }
-    ensures is { runsOf F.Field.numbers width out.new ≡ runsOf F.Field.numbers narrow form.now }
+    ensures is { runs_of F.Field.numbers width out.new ≡ runs_of F.Field.numbers narrow form.now }
 {
     pad::<F>(&mut out[0..width], &form[0..narrow]);
     if degree == 0 {
@@ -59,7 +59,7 @@ pub(crate) fn spread_turned<F: Field>(
     requires room { length out.old ≡ (degree + 1) * width }
     requires wide { narrow ≤ width }
     ensures all { AllBelow F.Field.numbers.q out.new }
-    ensures is { (t : ℕ) → t ≤ degree → runsOf F.Field.numbers width out.new t ≡ runsOf F.Field.numbers narrow form.now (degree - t) }
+    ensures is { (t : ℕ) → t ≤ degree → runs_of F.Field.numbers width out.new t ≡ runs_of F.Field.numbers narrow form.now (degree - t) }
 {
     let last = form.len() - narrow;
     pad::<F>(&mut out[0..width], &form[last..]);

@@ -1,7 +1,7 @@
 // The walk of one chart.
 ghost use Rattle.std.specs.Prelude.{◌≡◌, ℕ, suc, ◌+◌, ◌*◌, ◌<◌, ◌≤◌, [], length};
 ghost use Rattle.leaves.specs.declared.pairs.Chart.TheVariants.{Turned};
-ghost use Rattle.digits.specs.Runs.{runs as runsOf};
+ghost use Rattle.digits.specs.Runs.{runs as runs_of};
 ghost use Rattle.digits.specs.Walks.{Ends, Walked};
 ghost use Rattle.roots.specs.Asked.{asked};
 ghost use Rattle.roots.specs.Desk.{desk, Seated, Visit};
@@ -23,7 +23,7 @@ pub(crate) fn walk_chart<F: Field>(
     requires seated { Seated F.Field.numbers.q (desk collector.old.chart (asked collector.old.question) (length collector.old.work.now) collector.old.slots.now collector.old.len) }
     requires depth { length digits.old ≡ suc (collector.old.question.w1 + collector.old.question.w2) }
     requires room { length runs.old ≡ (collector.old.question.degree + 1) * (collector.old.question.length + collector.old.question.degree * length digits.old) }
-    ensures walked { Walked (Visit F.Field.numbers) (Ends F.Field.numbers collector.old.question.degree (length digits.old) 0 [] (runsOf F.Field.numbers collector.old.question.length collector.old.question.form.now)) (desk collector.old.chart (asked collector.old.question) (length collector.old.work.now) collector.old.slots.now collector.old.len) (desk collector.new.chart (asked collector.new.question) (length collector.new.work.now) collector.new.slots.now collector.new.len) }
+    ensures walked { Walked (Visit F.Field.numbers) (Ends F.Field.numbers collector.old.question.degree (length digits.old) 0 [] (runs_of F.Field.numbers collector.old.question.length collector.old.question.form.now)) (desk collector.old.chart (asked collector.old.question) (length collector.old.work.now) collector.old.slots.now collector.old.len) (desk collector.new.chart (asked collector.new.question) (length collector.new.work.now) collector.new.slots.now collector.new.len) }
     ensures lender { collector.new.slots.ghost_name ≡ collector.old.slots.ghost_name }
 {
     let depth = digits.len();
@@ -51,7 +51,7 @@ pub(crate) fn walk_turned<'f, F: Field>(
     requires seated { Seated F.Field.numbers.q (desk Turned (asked turned) (length collector.old.work.now) collector.old.slots.now collector.old.len) }
     requires depth { length digits.old ≡ suc (turned.w1 + turned.w2) }
     requires room { length runs.old ≡ (turned.degree + 1) * (turned.length + turned.degree * length digits.old) }
-    ensures walked { Walked (Visit F.Field.numbers) (Ends F.Field.numbers turned.entry.degree (length digits.old) 0 [] (runsOf F.Field.numbers turned.entry.length turned.entry.form.now)) (desk Turned (asked turned.entry) (length collector.old.work.now) collector.old.slots.now collector.old.len) (desk collector.new.chart (asked collector.new.question) (length collector.new.work.now) collector.new.slots.now collector.new.len) }
+    ensures walked { Walked (Visit F.Field.numbers) (Ends F.Field.numbers turned.entry.degree (length digits.old) 0 [] (runs_of F.Field.numbers turned.entry.length turned.entry.form.now)) (desk Turned (asked turned.entry) (length collector.old.work.now) collector.old.slots.now collector.old.len) (desk collector.new.chart (asked collector.new.question) (length collector.new.work.now) collector.new.slots.now collector.new.len) }
     ensures lender { collector.new.slots.ghost_name ≡ collector.old.slots.ghost_name }
 {
     collector.chart = Chart::Turned;

@@ -15,7 +15,7 @@ use Rattle.collections.specs.declared.Place.TheVariants.{Empty, Filled}
 use Rattle.collections.specs.Book.{Book, unopened, opened, Act, opening, entering, withdrawing, reading, place_check, place_in, check, writes, accepts, said_by, left_by, Said, done, told, Right, Fair}
 use Rattle.collections.proofs.Fairness.{no_fault, neither_left, neither_right, test_failed, fair_writes}
 use Rattle.sheets.specs.Sheet.{sheet_of, header_fault, field_fault}
-use Rattle.transfer.specs.Loading.{acts_of, first_refused, all_written, load_fault, loaded, said_by as saidLoading, left_by as leftLoading}
+use Rattle.transfer.specs.Loading.{acts_of, first_refused, all_written, load_fault, loaded, said_by as said_loading, left_by as left_loading}
 use Rattle.runs.specs.declared.Call.{Call}
 use Rattle.runs.specs.declared.Call.TheVariants.{Open, Load, Enter, Withdraw, Read, List as ListAll}
 use Rattle.runs.specs.Law.{Reply, accepted, tells, refuses, plain, with_byte, Acted, LoadedBy, Answered, Runs, stop, go}
@@ -73,8 +73,8 @@ load_passed q tag b bs e =
     let later : or_else (field_fault tag s) last ≡ None = neither_right (header_fault bs) (or_else (field_fault tag s) last) e in
     mapped_none Collection (first_refused q b (acts_of s)) (neither_right (field_fault tag s) last later)
 
-load_by : (q tag : ℕ) (b : Book) (bs : List ℕ) (o : Option SheetFault) (e : Book) → load_fault q tag b bs ≡ o → e ≡ leftLoading o (loaded b bs) b
-    → Written q b (done_in (acts_of (sheet_of bs)) (with_byte (saidLoading o))) e
+load_by : (q tag : ℕ) (b : Book) (bs : List ℕ) (o : Option SheetFault) (e : Book) → load_fault q tag b bs ≡ o → e ≡ left_loading o (loaded b bs) b
+    → Written q b (done_in (acts_of (sheet_of bs)) (with_byte (said_loading o))) e
 load_by q tag b bs None e h l = record { passed = load_passed q tag b bs h; leaves = l }
 load_by q tag b bs (Some f) e h l = record { passed = refl; leaves = l }
 

@@ -1,7 +1,7 @@
 -- The share sheet. Byte 0 is the version, 1. Bytes 1 and 2 are the number of bytes after byte 2, 6 + 6n. Bytes 3 to 8 are the field number, n, k, τ, s, ℓ. Then
 -- each place has its point, its multiplier and its share. Numbers of two bytes are big-endian.
 -- In order: the parts of a sheet, which check refuses it first, what it gives to opening, and what it tells of its places.
-use Rattle.std.specs.Prelude.{ℕ, ◌+◌, ◌*◌, not, ◌||◌, List, map, length, drop, Option, ◌==◌, nat_lt, slice_index, slice_index_or}
+use Rattle.std.specs.Prelude.{ℕ, ◌+◌, ◌*◌, not, ◌||◌, List, map, length, drop, Option, ◌==◌, nat_lt, slice_index}
 use Rattle.std.specs.List.{range_with_len}
 use Rattle.faults.specs.declared.SheetFault.{SheetFault}
 use Rattle.faults.specs.declared.SheetFault.TheVariants.{Version, Length, OtherField}
@@ -37,7 +37,7 @@ version_fault bs = when (nat_lt (length bs) 9 || not (slice_index bs 0 == 1)) Ve
 -- 14: bytes 1 and 2 are not 6 + 6n, or the bytes given are not 9 + 6n
 abbrev pub length_fault : List ℕ → Option SheetFault
 length_fault bs =
-    let n = slice_index_or bs 4 0 in
+    let n = slice_index bs 4 in
     when (not (two (slice_index bs 1) (slice_index bs 2) == 6 + 6 * n) || not (length bs == 9 + 6 * n)) Length
 
 abbrev pub header_fault : List ℕ → Option SheetFault

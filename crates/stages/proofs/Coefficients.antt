@@ -5,7 +5,7 @@ use native.Mathlib.Decide.{ℕ_discrete, dec_lt}
 use borrow.Author.Tests.{eqb-false}
 use Rattle.std.proofs.lemmas.List.FromFn.{length-map-range_with_len, get_or-map-range_with_len}
 use Rattle.algebra.specs.Field.{Field}
-use Rattle.algebra.specs.Sums.{sum as sum_of, pow as powOf, prod}
+use Rattle.algebra.specs.Sums.{sum as sum_of, pow as pow_of, prod}
 use Rattle.algebra.specs.Poly.{conv, padd, pneg, scale, const, Below, mono, Degree}
 use Rattle.algebra.specs.PolyRing.{const_conv, conv_assoc}
 use Rattle.algebra.specs.RingLaws as L
@@ -164,7 +164,7 @@ module _ (F : Numbers) where
   power_below a zero = F.laws.two
   power_below a (suc n) = F.laws.mul_below _ _
 
-  pub power_is : (a n : ℕ) → a < F.q → elem F (power F a n) ≡ powOf (ring_of F) (elem F a) n
-  unfolding power powOf
+  pub power_is : (a n : ℕ) → a < F.q → elem F (power F a n) ≡ pow_of (ring_of F) (elem F a) n
+  unfolding power pow_of
   power_is a zero h = refl
   power_is a (suc n) h = elem_mul F a (power F a n) h (power_below a n) ∙ ap (times F (elem F a)) (power_is a n h)

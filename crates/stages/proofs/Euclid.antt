@@ -144,10 +144,10 @@ module _ (F : Numbers) where
     next_reads m e =
         let s : p + l ≡ D = I.sum in
         let h : m < p = falls m e in
-        let m-is : size L.a - 1 ≡ m = omega (arith, e) in
-        let k-is : size P.a - m ≡ suc (p - m) = omega (arith, before_size) in
+        let m_is : size L.a - 1 ≡ m = omega (arith, e) in
+        let k_is : size P.a - m ≡ suc (p - m) = omega (arith, before_size) in
         subst (λ (r : Row). RowReads F (suc D) r (next_of (field_of F) p m P' L'))
-        (sym (ap (λ (x : ℕ). divide F x L (size P.a - x) P) m-is ∙ ap (λ (k : ℕ). divide F m L k P) k-is))
+        (sym (ap (λ (x : ℕ). divide F x L (size P.a - x) P) m_is ∙ ap (λ (k : ℕ). divide F m L k P) k_is))
         (divide_reads m l hL (last_degree m e).below I.b_degree.below (suc (p - m)) hP (omega arith) (omega arith))
 
   -- what a run starts from, and where it ends

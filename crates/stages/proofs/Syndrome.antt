@@ -3,10 +3,10 @@ use Rattle.std.proofs.Common.{◌≡◌, ℕ, zero, suc, ◌+◌, ◌-◌, ◌<�
 use mathlib.Core.Path.{fun_ext}
 use native.Mathlib.Decide.{dec_lt}
 use Rattle.std.proofs.lemmas.List.{length-append, get_or-append-add, get_or_append_left}
-use Rattle.algebra.specs.Sums.{sum as sum_of, pow as powOf, prod, but, all}
+use Rattle.algebra.specs.Sums.{sum as sum_of, pow as pow_of, prod, but, all}
 use Rattle.algebra.specs.RingLaws as L
 use Rattle.algebra.proofs.Sums.{sum_cong, sum_zero}
-use Rattle.decoding.specs.Code.{dual as dualOf, syndrome as syndromeOf}
+use Rattle.decoding.specs.Code.{dual as dual_of, syndrome as syndrome_of}
 use Rattle.algebra.specs.Poly.{geo}
 use Rattle.algebra.specs.Lagrange.{barycentric}
 use Rattle.algebra.proofs.Monomials.{geo_at, geo_below}
@@ -56,7 +56,7 @@ module _ (F : Numbers) (αs vs : List ℕ) (hα : AllBelow F.q αs) (hv : AllBel
         ∙ ap₂ (times F)
         (elem_mul F _ _ (all_at F rs hr j) (dual_below j) ∙ ap (times F (elem F (get_or rs j 0))) (dual_is j))
         (power_is F (get_or αs j 0) (D - 1 - i) (all_at F αs hα j)
-        ∙ ap (powOf (ring_of F) (elem F (get_or αs j 0))) (let z : D - 1 - i ≡ D - suc i = omega arith in z)
+        ∙ ap (pow_of (ring_of F) (elem F (get_or αs j 0))) (let z : D - 1 - i ≡ D - suc i = omega arith in z)
         ∙ sym (geo_at (ring_of F) D (elem F (get_or αs j 0)) i h))
 
     coefficient_is : (i : ℕ) → i < D → elem F (coefficient F αs vs D rs i)
@@ -101,11 +101,11 @@ module _ (F : Numbers) (αs vs : List ℕ) (hα : AllBelow F.q αs) (hv : AllBel
         ]
 
 pub syndrome_reads : SyndromeReads
-unfolding poly syndromeOf dualOf
+unfolding poly syndrome_of dual_of
 syndrome_reads F αs vs rs D distinct points multipliers hα hv hr = fun_ext (λ i. go i (dec_lt i D))
   where
     go : (i : ℕ) → Dec (i < D)
-        → poly F (syndrome F αs vs D rs) i ≡ syndromeOf (field_of F) (code_of F αs vs D distinct points multipliers) (poly F rs) i
+        → poly F (syndrome F αs vs D rs) i ≡ syndrome_of (field_of F) (code_of F αs vs D distinct points multipliers) (poly F rs) i
     go i (yes h) = ap (elem F) (syndrome_at F αs vs hα hv D rs hr i h) ∙ coefficient_is F αs vs hα hv D rs hr i h
     go i (no h) =
         ap (elem F) (syndrome_top F αs vs hα hv D rs hr i (omega arith))

@@ -2,7 +2,7 @@
 -- ends at rows at which Euclid's algorithm stops, with the degrees of the theory's rows, and the distance of lists is that of the words.
 use Rattle.std.specs.Prelude.{◌≡◌, ℕ, suc, ◌-◌, ◌≤◌, List, length, pos, slice_index}
 use Rattle.algebra.specs.Sums.{Distinct, NonZero}
-use Rattle.decoding.specs.Code.{Code, syndrome as syndromeOf}
+use Rattle.decoding.specs.Code.{Code, syndrome as syndrome_of}
 use Rattle.algebra.specs.Euclid.{Row as RowOf, Stopped}
 use Rattle.decoding.specs.Words.{distance as distance_of}
 use Rattle.fields.specs.Numbers.{Numbers, AllBelow, Element, ring_of, field_of}
@@ -49,7 +49,7 @@ SyndromeReads =
     (F : Numbers) (αs vs rs : List ℕ) (D : ℕ) (distinct : Distinct (ring_of F) (length αs) (poly F αs))
     (points : NonZero (ring_of F) (length αs) (poly F αs)) (multipliers : NonZero (ring_of F) (length αs) (poly F vs))
     → AllBelow F.q αs → AllBelow F.q vs → AllBelow F.q rs
-    → poly F (syndrome F αs vs D rs) ≡ syndromeOf (field_of F) (code_of F αs vs D distinct points multipliers) (poly F rs)
+    → poly F (syndrome F αs vs D rs) ≡ syndrome_of (field_of F) (code_of F αs vs D distinct points multipliers) (poly F rs)
 
 -- The run on x ^ D and S ends at rows at which Euclid's algorithm stops
 abbrev pub RowsStop : Type 0
@@ -63,7 +63,7 @@ BasisReads =
     (F : Numbers) (αs vs rs : List ℕ) (k : ℕ) (distinct : Distinct (ring_of F) (length αs) (poly F αs))
     (points : NonZero (ring_of F) (length αs) (poly F αs)) (multipliers : NonZero (ring_of F) (length αs) (poly F vs))
     → AllBelow F.q αs → AllBelow F.q vs → AllBelow F.q rs
-    → Stops F crossing (length αs - k) (syndromeOf (field_of F) (code_of F αs vs (length αs - k) distinct points multipliers) (poly F rs)) (basis F αs vs k rs).rows
+    → Stops F crossing (length αs - k) (syndrome_of (field_of F) (code_of F αs vs (length αs - k) distinct points multipliers) (poly F rs)) (basis F αs vs k rs).rows
 
 -- The degrees of h10 and h21, from which the weights are taken, are those of the theory's rows
 abbrev pub DegreesRead : Type 0

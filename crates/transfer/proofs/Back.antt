@@ -55,13 +55,13 @@ module _ (s : Sheet) (bytes : (i : ℕ) → get_or s.entries i 0 < 256) where
       let p = get_or (given_in s).points k 0 in
       let m = get_or (given_in s).multipliers k 0 in
       let v = as_number (get_or (shares_in s) k None) in
-      let at-point : p ≡ number es 0 k = get_or-map-range_with_len (number es 0) 0 s.count k k 0 h (omega arith) in
-      let at-multiplier : m ≡ number es 2 k = get_or-map-range_with_len (number es 2) 0 s.count k k 0 h (omega arith) in
-      let at-share : v ≡ number es 4 k =
+      let at_point : p ≡ number es 0 k = get_or-map-range_with_len (number es 0) 0 s.count k k 0 h (omega arith) in
+      let at_multiplier : m ≡ number es 2 k = get_or-map-range_with_len (number es 2) 0 s.count k k 0 h (omega arith) in
+      let at_share : v ≡ number es 4 k =
       ap as_number (get_or-map-range_with_len (λ p. share_in (number es 4 p)) 0 s.count k k None h (omega arith)) ∙ as_share (number es 4 k) (eqb (number es 4 k) 65535) refl in
-      let a = pair_at p 0 k i (i + 1) at-point (omega arith) (omega arith) in
-      let b = pair_at m 2 k (i + 1 + 1) (i + 1 + 1 + 1) at-multiplier (omega arith) (omega arith) in
-      let c = pair_at v 4 k (i + 1 + 1 + 1 + 1) (i + 1 + 1 + 1 + 1 + 1) at-share (omega arith) (omega arith) in
+      let a = pair_at p 0 k i (i + 1) at_point (omega arith) (omega arith) in
+      let b = pair_at m 2 k (i + 1 + 1) (i + 1 + 1 + 1) at_multiplier (omega arith) (omega arith) in
+      let c = pair_at v 4 k (i + 1 + 1 + 1 + 1) (i + 1 + 1 + 1 + 1 + 1) at_share (omega arith) (omega arith) in
       ap (λ (l : List ℕ). l ++ (pair m ++ pair v)) a
       ∙ ap (λ (l : List ℕ). get_or es i 0 ∷ get_or es (i + 1) 0 ∷ (l ++ pair v)) b
       ∙ ap (λ (l : List ℕ). get_or es i 0 ∷ get_or es (i + 1) 0 ∷ get_or es (i + 1 + 1) 0 ∷ get_or es (i + 1 + 1 + 1) 0 ∷ l) c

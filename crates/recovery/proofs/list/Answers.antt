@@ -1,4 +1,4 @@
-use Rattle.std.proofs.Common.{◌≡◌, ℕ, List, length, take, sym, refl, ap, ◌∙◌, subst}
+use Rattle.std.proofs.Common.{ℕ, length, take, sym, refl, ap, ◌∙◌, subst}
 use Rattle.fields.specs.Numbers.{AllBelow}
 use Rattle.interpolating.proofs.Openings.{points_long, gathered_long}
 use Rattle.recovery.proofs.Opened.{passed}

@@ -1,4 +1,4 @@
-use Rattle.std.proofs.Common.{◌≡◌, ℕ, List, length, take, sym, refl, ap, ◌∙◌, subst, arith}
+use Rattle.std.proofs.Common.{ℕ, length, ap, ◌∙◌, arith}
 use Rattle.collections.specs.Standing.{given_of}
 use Rattle.listings.specs.Calls.{area_fault}
 use Rattle.recovery.proofs.Opened.{listable, roomy}

@@ -28,9 +28,9 @@ returns g c =
     let F = g.F.Field.numbers in
     let L : Row = row c.args.la.now c.args.lb.now in
     let P : Row = row c.args.pa.now c.args.pb.now in
-    let m-is : c.size-m.result ≡ size c.args.la.now =
+    let m_is : c.size-m.result ≡ size c.args.la.now =
     size_by F c.args.la.now c.size-m.result c.requires.second.a_below c.size-m.ensures.is in
-    let p-is : c.size.result ≡ size c.args.pa.now =
+    let p_is : c.size.result ≡ size c.args.pa.now =
     size_by F c.args.pa.now c.size.result c.requires.first.a_below c.size.ensures.is in
     record {
       before = ap₂ row c.swap_with_slice.ensures.after c.swap_with_slice-2.ensures.after;
@@ -38,5 +38,5 @@ returns g c =
           ap₂ row c.swap_with_slice.ensures.other_after c.swap_with_slice-2.ensures.other_after
           ∙ c.divide_row.ensures
           ∙ ap (λ (t : ℕ). divide F (c.size-m.result - 1) L t P) c.saturating_sub-turns.ensures
-          ∙ ap₂ (λ (x y : ℕ). divide F (x - 1) L (y - (x - 1)) P) m-is p-is;
+          ∙ ap₂ (λ (x y : ℕ). divide F (x - 1) L (y - (x - 1)) P) m_is p_is;
     }

@@ -1,8 +1,7 @@
-use Rattle.std.proofs.Common.{◌⊎◌, List, take, sym, subst, arith}
+use Rattle.std.proofs.Common.{◌⊎◌, take, sym, subst, arith}
 use Rattle.polynomials.specs.Series.{poly}
 use Rattle.rolls.specs.Order.{Has, Lists}
 use Rattle.rolls.proofs.Accepted.{length_after}
-use Rattle.candidates.specs.declared.records.Candidate.{Candidate}
 use Rattle.candidates.specs.Order.{in_order}
 use Rattle.candidates.specs.Telling.{Passing}
 use Rattle.candidates.specs.Sifting.{locator}

@@ -1,4 +1,4 @@
-use Rattle.std.proofs.Common.{◌≡◌, ℕ, ◌-◌, ◌<◌, ◌≤◌, List, [], ◌∷◌, length, take, pos, ◌≤ℤ◌, ◌<ℤ◌, sym, ap, ◌∙◌, subst, ap₂, arith, w16, to_z, of_z}
+use Rattle.std.proofs.Common.{◌≡◌, ℕ, ◌-◌, ◌≤◌, List, [], ◌∷◌, length, take, pos, ◌≤ℤ◌, ◌<ℤ◌, sym, ap, ◌∙◌, subst, ap₂, arith, w16, to_z, of_z}
 use Rattle.std.proofs.lemmas.Int.{ints}
 use Rattle.fields.specs.Numbers.{AllBelow}
 use Rattle.leaves.specs.declared.pairs.Pair.{Pair}
@@ -6,7 +6,7 @@ use Rattle.interpolant.specs.declared.Shape.{Shape}
 use Rattle.interpolant.specs.Problems.{Enough}
 use Rattle.interpolating.specs.Interpolation.{shape_of}
 use Rattle.interpolating.proofs.Bounds.{h11_below, h21_below}
-use Rattle.pairs.specs.Stage.{unit_pair, RootsOf, Fits, h11, h21, ToSift}
+use Rattle.pairs.specs.Stage.{RootsOf, Fits, h11, h21, ToSift}
 use Rattle.pairs.proofs.Standing.{front, first_written}
 use Rattle.pairs.proofs.Cases.{none, single, exists, has_room, several}
 use Rattle.pairs.proofs.finding.find_pairs.Goals as goal

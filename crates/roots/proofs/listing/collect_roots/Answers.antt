@@ -1,4 +1,4 @@
-use Rattle.std.proofs.Common.{◌≡◌, ℕ, suc, ◌+◌, ◌*◌, ◌≤◌, length, sym, refl, ap, ◌∙◌, arith, rules}
+use Rattle.std.proofs.Common.{◌≡◌, suc, ◌+◌, length, sym, refl, ap, ◌∙◌, arith, rules}
 use Rattle.roots.specs.declared.collecting.Collector.{Collector}
 use Rattle.roots.specs.Asked.{Asked, asked}
 use Rattle.roots.specs.Desk.{Desk, desk}

@@ -1,4 +1,4 @@
-use Rattle.std.proofs.Common.{◌≡◌, ℕ, suc, ◌+◌, ◌*◌, ◌≤◌, length, sym, refl, ap, ◌∙◌, arith}
+use Rattle.std.proofs.Common.{ℕ, ◌+◌, ◌*◌, sym, refl, ap, ◌∙◌, arith}
 use Rattle.roots.proofs.listing.list_roots.Goals as goal
 
 pub collect_roots-requires : goal.collect_roots-requires

@@ -1,7 +1,6 @@
-use Rattle.std.proofs.Common.{◌≡◌, ℕ, zero, suc, ◌+◌, ◌-◌, ◌*◌, ◌<◌, ◌≤◌, length, take, drop, sym, refl, ap, ◌∙◌, subst, arith, length-take}
-use Rattle.polynomials.specs.Series.{poly}
+use Rattle.std.proofs.Common.{◌≡◌, ◌-◌, ◌*◌, ◌<◌, length, take, drop, ◌∙◌, arith}
 use Rattle.digits.specs.Runs.{runs}
-use Rattle.digits.proofs.Arrays.{all_take, all_drop, runs_below}
+use Rattle.digits.proofs.Arrays.{all_take, all_drop}
 use Rattle.roots.proofs.Spread.{more_all, more_first, more_rest, run_length, rest_size, back_size, first_size, last_run, front_run, last_size, front_size, turned_one, turned_more, first_all, first_run, out_wide}
 use Rattle.roots.proofs.spreading.+spread_turned.Goals as goal
 

@@ -1,4 +1,4 @@
-use Rattle.std.proofs.Common.{ℕ, ◌-◌, length, arith}
+use Rattle.std.proofs.Common.{◌-◌, length, arith}
 use Rattle.roots.proofs.Spread.{padded}
 use Rattle.roots.proofs.spreading.pad.Goals as goal
 

@@ -1,4 +1,4 @@
-use Rattle.std.proofs.Common.{◌≡◌, ℕ, suc, ◌+◌, ◌*◌, ◌≤◌, List, [], length, take, sym, refl, ap, ◌∙◌, subst, arith}
+use Rattle.std.proofs.Common.{◌≡◌, ℕ, ◌+◌, ◌*◌, [], length, refl, ◌∙◌, subst, arith}
 use Rattle.fields.specs.Numbers.{Element}
 use Rattle.digits.specs.Runs.{runs}
 use Rattle.digits.specs.Walks.{Ends, Walked}
