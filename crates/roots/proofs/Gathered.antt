@@ -16,7 +16,7 @@ use Rattle.leaves.specs.Order.{in_order}
 use Rattle.leaves.specs.Reached.{Reached}
 use Rattle.roots.specs.Asked.{Asked, all_zero}
 use Rattle.roots.specs.Answer.{IsRoot, blank, Listed}
-use Rattle.roots.specs.Desk.{Desk, desk, turned_asked, Stays, Entered, Visit, Walks}
+use Rattle.roots.specs.Desk.{Desk, Stays, Entered, Visit, Walks}
 use Rattle.roots.proofs.Few.{pair_order, few_roots}
 use Rattle.roots.proofs.Collected.{put, Holds, Finds, chain_holds}
 use Rattle.roots.proofs.Charts.{Wanted₁, Wanted₂, wanted_first, wanted_second, either_chart}
@@ -74,17 +74,24 @@ module _ (F : Numbers) (a : Asked) (room : ℕ) (long : length a.form ≡ (a.ℓ
   empty : (slots : List Pair) → Held NoneYet (take 0 slots)
   empty slots = record { ascending = tt; sound = λ z h. elim h [ ]; complete = λ z e. elim e [ ] }
 
+  -- the desks of the two walks
+  abbrev pub direct : ℕ → List Pair → ℕ → Desk
+  direct r slots n = record { chart = Direct; form = a.form; width = a.c; degree = a.ℓ; w₁ = a.w₁; w₂ = a.w₂; room = r; slots = slots; len = n }
+
+  abbrev pub turned_desk : List ℕ → ℕ → List Pair → ℕ → Desk
+  turned_desk form r slots n = record { chart = Turned; form = form; width = a.c; degree = a.ℓ; w₁ = a.w₂; w₂ = a.w₁; room = r; slots = slots; len = n }
+
   abbrev N₁ : ℕ
   N₁ = suc (a.w₁ + a.w₂)
 
   abbrev N₂ : ℕ
   N₂ = suc (a.w₂ + a.w₁)
 
-  module _ (r : ℕ) (slots slots₁ : List Pair) (n₁ : ℕ) (l : length slots ≡ room) (walks : Walks F (desk Direct a r slots 0) slots₁ n₁) where
-    first : Inv (desk Direct a r slots 0) walks.0 × Held (λ z. NoneYet z ⊎ ((ds : List ℕ) × Has ds walks.1.leaves × Wanted₁ F a N₁ ds z)) (items walks.0)
-    first = walk_holds (desk Direct a r slots 0) (Wanted₁ F a N₁) (good_direct F a) (wanted_direct F a) walks.0 walks.1 (omega arith) l (empty slots)
+  module _ (r : ℕ) (slots slots₁ : List Pair) (n₁ : ℕ) (l : length slots ≡ room) (walks : Walks F (direct r slots 0) slots₁ n₁) where
+    first : Inv (direct r slots 0) walks.0 × Held (λ z. NoneYet z ⊎ ((ds : List ℕ) × Has ds walks.1.leaves × Wanted₁ F a N₁ ds z)) (items walks.0)
+    first = walk_holds (direct r slots 0) (Wanted₁ F a N₁) (good_direct F a) (wanted_direct F a) walks.0 walks.1 (omega arith) l (empty slots)
 
-    pub direct_stays : Stays (desk Direct a r slots 0) walks.0
+    pub direct_stays : Stays (direct r slots 0) walks.0
     direct_stays = first.0.0
 
     pub direct_fits : n₁ ≤ length slots₁
@@ -98,10 +105,10 @@ module _ (F : Numbers) (a : Asked) (room : ℕ) (long : length a.form ≡ (a.ℓ
 
     module _ (r' : ℕ) (form : List ℕ) (slots₂ : List Pair) (n₂ : ℕ) (fl : length form ≡ (a.ℓ + 1) * a.c)
         (same : (t : ℕ) → t ≤ a.ℓ → runs F a.c form t ≡ runs F a.c a.form (a.ℓ - t))
-        (further : Walks F (desk Turned (turned_asked a form) r' slots₁ n₁) slots₂ n₂) where
-      second : Inv (desk Turned (turned_asked a form) r' slots₁ n₁) further.0 × Held (λ z. (NoneYet z ⊎ ((ds : List ℕ) × Has ds walks.1.leaves × Wanted₁ F a N₁ ds z)) ⊎ ((ds : List ℕ) × Has ds further.1.leaves × Wanted₂ F a N₂ ds z)) (items further.0)
+        (further : Walks F (turned_desk form r' slots₁ n₁) slots₂ n₂) where
+      second : Inv (turned_desk form r' slots₁ n₁) further.0 × Held (λ z. (NoneYet z ⊎ ((ds : List ℕ) × Has ds walks.1.leaves × Wanted₁ F a N₁ ds z)) ⊎ ((ds : List ℕ) × Has ds further.1.leaves × Wanted₂ F a N₂ ds z)) (items further.0)
       second =
-          walk_holds (desk Turned (turned_asked a form) r' slots₁ n₁) (Wanted₂ F a N₂) (good_turned F a (runs F a.c form) same) (wanted_turned F a (runs F a.c form) same) further.0 further.1 direct_fits direct_room
+          walk_holds (turned_desk form r' slots₁ n₁) (Wanted₂ F a N₂) (good_turned F a (runs F a.c form) same) (wanted_turned F a (runs F a.c form) same) further.0 further.1 direct_fits direct_room
           (subst (Held (λ z. NoneYet z ⊎ ((ds : List ℕ) × Has ds walks.1.leaves × Wanted₁ F a N₁ ds z))) direct_items first.1)
 
       reached : (z : Pair) → IsRoot F a z → Has z (items further.0)

@@ -7,9 +7,8 @@ ghost use Rattle.roots.specs.Answer.{Listed, Answered};
 ghost use Rattle.roots.specs.Desk.{Turns};
 
 use super::asking::Question;
-use super::collecting::Collector;
+use super::finding::{Finder, walk_question, walk_turned};
 use super::spreading::spread_turned;
-use super::walking::{walk_chart, walk_turned};
 use areas::Wipe;
 use faults::ListingFault;
 use fields::Field;
@@ -38,7 +37,7 @@ fn collect_roots<'f, F: Field>(
     requires work { 3 * (direct.length + direct.degree * 31) ≤ length room.old }
     ensures { Listed F.Field.numbers (asked direct.entry) result out.new }
 {
-    let mut collector = Collector::<F> {
+    let mut finder = Finder::<F> {
         chart: Chart::Direct,
         question: direct,
         work: room,
@@ -46,9 +45,9 @@ fn collect_roots<'f, F: Field>(
         len: 0,
         field: PhantomData,
     };
-    walk_chart::<F>(&mut collector, runs, digits);
-    walk_turned::<F>(&mut collector, turned, runs, digits);
-    let count = collector.len;
+    walk_question::<F>(&mut finder, runs, digits);
+    walk_turned::<F>(&mut finder, turned, runs, digits);
+    let count = finder.len;
     Roll::resume(out, count).close(BLANK)
 }
 

@@ -3,8 +3,7 @@ use Rattle.fields.specs.Numbers.{Element}
 use Rattle.digits.specs.Runs.{runs}
 use Rattle.digits.specs.Walks.{Ends, Walked}
 use Rattle.roots.specs.declared.collecting.Collector.{Collector}
-use Rattle.roots.specs.Asked.{asked}
-use Rattle.roots.specs.Desk.{Desk, desk, Visit}
+use Rattle.roots.specs.Desk.{Desk, Visit}
 use Rattle.roots.proofs.Seats.{held_spread, ready, walked_part, walked_kept}
 use Rattle.roots.proofs.walking.walk_chart.Goals as goal
 
@@ -13,7 +12,7 @@ walk-requires g c =
     let F = g.F.Field.numbers in
     let l : length c.clear.new.a ≡ length c.args.digits.now = c.clear.auto.a in
     record {
-      held = held_spread F _ c.args.collector.now.question.length c.args.collector.now.question.form.now c.spread.new.out refl refl c.requires.seated.long (c.spread.auto.out ∙ c.requires.room) c.spread.ensures.all c.spread.ensures.is;
+      held = held_spread F _ c.args.collector.now.width c.args.collector.now.form.now c.spread.new.out refl refl c.requires.seated.long (c.spread.auto.out ∙ c.requires.room) c.spread.ensures.all c.spread.ensures.is;
       few = c.requires.seated.few;
       place = omega arith;
       deep = omega arith;
@@ -22,11 +21,11 @@ walk-requires g c =
     }
 
 module _ {X : Type 0} where
-  abbrev desk_of : Collector X → Desk
-  desk_of s = desk s.chart (asked s.question) (length s.work.now) s.slots.now s.len
+  abbrev desk : Collector X → Desk
+  desk s = record { chart = s.chart; form = s.form.now; width = s.width; degree = s.degree; w₁ = s.w1; w₂ = s.w2; room = length s.work.now; slots = s.roll.slots.now; len = s.roll.len }
 
   abbrev kept : Collector X → ℕ
-  kept s = s.slots.ghost_name
+  kept s = s.roll.slots.ghost_name
 
 pub returns : goal.returns
 returns g c =
@@ -34,8 +33,8 @@ returns g c =
     let w = c.walk.ensures.walked in
     record {
       walked =
-          subst (λ (T : ℕ → ℕ → Element F). Walked (Visit F) (Ends F c.args.collector.now.question.degree (length c.args.digits.now) 0 [] T) (desk_of c.args.collector.now) (desk_of c.walk.new.leaf)) c.spread.ensures.is
-          (subst (λ (N : ℕ). Walked (Visit F) (Ends F c.args.collector.now.question.degree N 0 [] (runs F (c.args.collector.now.question.length + c.args.collector.now.question.degree * length c.args.digits.now) c.spread.new.out)) (desk_of c.args.collector.now) (desk_of c.walk.new.leaf)) c.clear.auto.a
-          (walked_part (Visit F) desk_of kept w));
-      lender = walked_kept (Visit F) desk_of kept w;
+          subst (λ (T : ℕ → ℕ → Element F). Walked (Visit F) (Ends F c.args.collector.now.degree (length c.args.digits.now) 0 [] T) (desk c.args.collector.now) (desk c.walk.new.leaf)) c.spread.ensures.is
+          (subst (λ (N : ℕ). Walked (Visit F) (Ends F c.args.collector.now.degree N 0 [] (runs F (c.args.collector.now.width + c.args.collector.now.degree * length c.args.digits.now) c.spread.new.out)) (desk c.args.collector.now) (desk c.walk.new.leaf)) c.clear.auto.a
+          (walked_part (Visit F) desk kept w));
+      lender = walked_kept (Visit F) desk kept w;
     }
