@@ -2,7 +2,7 @@
 """Spells the repository's own definitions and lemmas as today's Rattle does: words in snake case, types in camel case.
 
 usage: respell.py list      at the top: the names that are declared here and spelled otherwise, each with its new spelling
-       respell.py apply     at the top: renames by respelled.tsv beside this script, in all files of crates/ but must-fail edits' file lines
+       respell.py apply     at the top: renames by respelled.tsv beside this script, in all files of crates/, and then the names that imports give
 
 A name that a file imports from a library, and a label that Rattle makes (behind goal. or c. in an answer), stays.
 """
@@ -108,6 +108,16 @@ def lists():
         print(f"{n}\t{to}")
 
 
+def given(text):
+    """The names that a text's imports give to what they import, and their new spelling."""
+    tokens = set(TOKEN.findall(text))
+    for line in re.findall(r"(?m)^\s*(?:pub |ghost )?use [^\n]*", text):
+        for name in re.findall(r" as ([a-z][^\s,;}]*)", line):
+            to = "value_of" if name == "value_of_lem" else spelled(name, False)
+            if to != name:
+                yield name, to if to not in tokens else "the_" + re.sub(r"_of$", "", to)
+
+
 def apply():
     own = crates()
     with open(os.path.join(HERE, "respelled.tsv"), encoding="utf-8") as f:
@@ -138,6 +148,8 @@ def apply():
             return new[n]
 
         u = TOKEN.sub(turn, t)
+        for name, to in set(given(u)):
+            u = re.sub(rf"(?<![\w.-]){re.escape(name)}(?![\w-])", to, u)
         if u != t:
             changed += 1
             with open(p, "w", encoding="utf-8") as f:
