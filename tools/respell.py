@@ -1,8 +1,8 @@
 #!/usr/bin/env python3
 """Spells the repository's own definitions and lemmas as today's Rattle does: words in snake case, types in camel case.
 
-usage: respell.py list      at the top: the names that are declared here and spelled otherwise, each with its new spelling
-       respell.py apply     at the top: renames by respelled.tsv beside this script, in all files of crates/, and then the names that imports give
+usage: respell.py          at the top: renames by respelled.tsv beside this script, in all files of crates/, and then the names that imports give
+       respell.py list     at the top: the names that are declared here and spelled otherwise, each with its new spelling
 
 A name that a file imports from a library, and a label that Rattle makes (behind goal. or c. in an answer), stays.
 """
@@ -158,4 +158,4 @@ def apply():
 
 
 if __name__ == "__main__":
-    {"list": lists, "apply": apply}[sys.argv[1] if len(sys.argv) > 1 else "list"]()
+    {"list": lists, "apply": apply}[sys.argv[1] if len(sys.argv) > 1 else "apply"]()
