@@ -1,6 +1,6 @@
 -- Runs that are written one after another.
-use Rattle.std.proofs.Common.{◌≡◌, ℕ, ◌+◌, ◌-◌, ◌*◌, ◌≤◌, List, ◌++◌, length, take, drop, sym, refl, ap, ◌∙◌, ap₂, arith}
-use Rattle.std.proofs.lemmas.List.{take_at, drop_at, drop-drop, length-append, length-drop, append_assoc}
+use Rattle.std.proofs.Common.{◌≡◌, ℕ, ◌+◌, ◌*◌, List, ◌++◌, length, take, drop, sym, refl, ap, ◌∙◌, ap₂, arith}
+use Rattle.std.proofs.lemmas.List.{take_at, drop_at, drop-drop, length-append, append_assoc}
 
 -- one run more: x is what was written so far and the rest of what stood there
 pub put_next : (pre run o x : List ℕ) (at n m : ℕ) → x ≡ pre ++ drop at o → length pre ≡ at → at + length run ≡ n → n ≡ m
@@ -11,11 +11,6 @@ put_next pre run o x at n m ex el en em =
     (ap (λ (k : ℕ). drop k x) (sym en) ∙ sym (drop-drop (length run) at x) ∙ ap (λ (zs : List ℕ). drop (length run) zs) (ap (drop at) ex ∙ drop_at pre (drop at o) at el)
     ∙ drop-drop (length run) at o ∙ ap (λ (k : ℕ). drop k o) (en ∙ em))
     ∙ sym (append_assoc pre run (drop m o))
-
--- a run copied to its place
-pub put_by : (o run ys : List ℕ) (at k : ℕ) → ys ≡ run → k ≡ length run → take at o ++ (ys ++ drop k (drop at o)) ≡ take at o ++ (run ++ drop (at + length run) o)
-put_by o run ys at k ey ek =
-    ap₂ (λ (zs ts : List ℕ). take at o ++ (zs ++ ts)) ey (ap (λ (j : ℕ). drop j (drop at o)) ek ∙ drop-drop (length run) at o)
 
 -- five runs of d numbers
 module _ (d : ℕ) (a b c e f o : List ℕ) (la : length a ≡ d) (lb : length b ≡ d) (lc : length c ≡ d) (le : length e ≡ d) (lf : length f ≡ d) where
@@ -33,8 +28,3 @@ module _ (d : ℕ) (a b c e f o : List ℕ) (la : length a ≡ d) (lb : length b
       e5 ∙ put_next (a ++ b ++ c ++ e) f o x4 (4 * d) (4 * d + length f) (5 * d) s4 l4 refl (omega arith)
       ∙ ap (λ (ys : List ℕ). ys ++ drop (5 * d) o)
       (append_assoc (a ++ b ++ c) e f ∙ append_assoc (a ++ b) c (e ++ f) ∙ append_assoc a b (c ++ (e ++ f)))
-
--- an array whose first d numbers were written
-pub still_full : (d : ℕ) (xs zs : List ℕ) → length xs ≡ d → d ≤ length zs → length (xs ++ drop d zs) ≡ length zs
-still_full d xs zs e h =
-    length-append xs (drop d zs) ∙ ap₂ ◌+◌ e (length-drop d zs) ∙ (let z : d + (length zs - d) ≡ length zs = omega arith in z)

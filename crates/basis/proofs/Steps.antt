@@ -11,7 +11,8 @@ use Rattle.polynomials.proofs.Shapes.{up, up_at, up_under, elem_shifted_at}
 use Rattle.stages.specs.Coefficients.{size_to, size, less}
 use Rattle.stages.specs.Euclid.{Row, Rows, row, two_rows, row_less, divide, next, run}
 use Rattle.stages.proofs.Coefficients.{size_is, less_at, less_length, less_below}
-use Rattle.basis.specs.Rows.{Fits}
+use Rattle.basis.specs.declared.euclid.LastRows.{LastRows}
+use Rattle.basis.specs.Rows.{Fits, SameAreas}
 
 pub size_within : (n : ℕ) (xs : List ℕ) → size_to n xs ≤ n
 unfolding size_to
@@ -29,6 +30,9 @@ tested limit L a b t ea eb et eu = ap₂ (λ (x y : ℕ). not (leb x (limit (y -
 
 pub on_some : (s n : ℕ) → not (leb s n) ≡ true → 0 < s
 on_some s n e = let h : n < s = leb-false s n (not-true (leb s n) e) in omega arith
+
+pub same_areas : {t t' t'' : LastRows} → SameAreas t t' → SameAreas t' t'' → SameAreas t t''
+same_areas a b = record { pa = b.pa ∙ a.pa; pb = b.pb ∙ a.pb; la = b.la ∙ a.la; lb = b.lb ∙ a.lb }
 
 module _ (F : Numbers) where
   pub take_below : (n : ℕ) (xs : List ℕ) → AllBelow F.q xs → AllBelow F.q (take n xs)

@@ -2,6 +2,7 @@
 use Rattle.std.specs.Prelude.{◌≡◌, ℕ, List, length}
 use Rattle.fields.specs.Numbers.{AllBelow}
 use Rattle.stages.specs.Euclid.{Row}
+use Rattle.basis.specs.declared.euclid.LastRows.{LastRows}
 use Rattle.basis.specs.declared.euclid.Stop.{Stop}
 use Rattle.basis.specs.declared.euclid.Stop.TheVariants.{Crossing, Short}
 
@@ -18,6 +19,13 @@ pub record Room (n : ℕ) (pa pb la lb : List ℕ) : Type 0 where
   pub pb_length : length pb ≡ n
   pub la_length : length la ≡ n
   pub lb_length : length lb ≡ n
+
+-- the areas are those of before, whatever stands in them
+pub record SameAreas (t t' : LastRows) : Type 0 where
+  pub pa : t'.pa.ghost_name ≡ t.pa.ghost_name
+  pub pb : t'.pb.ghost_name ≡ t.pb.ghost_name
+  pub la : t'.la.ghost_name ≡ t.la.ghost_name
+  pub lb : t'.lb.ghost_name ≡ t.lb.ghost_name
 
 -- what the size of a row's a must not pass for the run to stop there, where its b has the degree l
 abbrev pub limit : Stop → ℕ → ℕ

@@ -2,12 +2,12 @@ ghost use Rattle.std.specs.Prelude.{◌≡◌, ℕ, ◌+◌, ◌-◌, ◌<◌, �
 ghost use Rattle.fields.specs.Numbers.{AllBelow};
 ghost use Rattle.stages.specs.Coefficients.{less, size as size_of};
 ghost use Rattle.stages.specs.Euclid.{row, two_rows, divide, next, run as run_of, start as start_of, rows as rows_of};
-ghost use Rattle.basis.specs.Rows.{Fits, Room, limit as limit_of};
+ghost use Rattle.basis.specs.Rows.{Fits, Room, SameAreas, limit as limit_of};
 
 use fields::Field;
 use polynomials::{add_shifted_multiple, size};
 
-// Where a run of Euclid's rows stops.
+// Where a run of Euclid's rows stops. An enum and no closure: there are two rules, and a contract names the rule of each as a function (`limit`).
 #[derive(Clone, Copy, Drop)]
 pub enum Stop {
     // at the first row whose a has a lower degree than its b
@@ -63,6 +63,7 @@ fn divide_row<F: Field>(
     ensures { row a.new b.new ≡ divide F.Field.numbers m (row la.now lb.now) turns (row a.old b.old) }
 {
     let inverse = F::inv(la[m]);
+    // By index: k is a power of x, and a[k + m] is what the turns before have left there.
     for k in (0..turns).rev() {
         let c = F::mul(a[k + m], inverse);
         take_multiple::<F>(a, c, k, la);
@@ -70,60 +71,88 @@ fn divide_row<F: Field>(
     }
 }
 
-// One step: the last row (la, lb) becomes the one before, and the next row the last.
-fn step<F: Field>(pa: &mut [u16], pb: &mut [u16], la: &mut [u16], lb: &mut [u16])
-    requires first { Fits F.Field.numbers.q (length la.old) (row pa.old pb.old) }
-    requires second { Fits F.Field.numbers.q (length la.old) (row la.old lb.old) }
-    requires some { 0 < size_of la.old }
-    ensures before { row pa.new pb.new ≡ row la.old lb.old }
-    ensures last { row la.new lb.new ≡ next F.Field.numbers (row pa.old pb.old) (row la.old lb.old) }
-{
-    let m = size::<F>(la) - 1;
-    let turns = size::<F>(pa).saturating_sub(m);
-    divide_row::<F>(pa, pb, la, lb, m, turns);
-    pa.swap_with_slice(la);
-    pb.swap_with_slice(lb);
+// The last two rows of a run, in lent areas: (la, lb) is the last and (pa, pb) the one before.
+#[derive(Drop)]
+pub struct LastRows<'a> {
+    pub pa: &'a mut [u16],
+    pub pb: &'a mut [u16],
+    pub la: &'a mut [u16],
+    pub lb: &'a mut [u16],
 }
 
-// The run of the rows from (pa, pb) and (la, lb) on, in their place.
-fn run<F: Field>(stop: Stop, pa: &mut [u16], pb: &mut [u16], la: &mut [u16], lb: &mut [u16])
-    requires first { Fits F.Field.numbers.q (length la.old) (row pa.old pb.old) }
-    requires second { Fits F.Field.numbers.q (length la.old) (row la.old lb.old) }
-    ensures { two_rows (row pa.new pb.new) (row la.new lb.new) ≡ run_of F.Field.numbers (limit_of stop) (length la.old) (two_rows (row pa.old pb.old) (row la.old lb.old)) }
-{
-    while stop.goes_on(size::<F>(la), size::<F>(lb)) {
-        step::<F>(pa, pb, la, lb);
+impl LastRows<'_> {
+    // Whether the run goes on past these rows.
+    fn goes_on<F: Field>(&self, stop: Stop) -> bool
+        requires first { AllBelow F.Field.numbers.q self.now.la.now }
+        requires second { AllBelow F.Field.numbers.q self.now.lb.now }
+        ensures { result ≡ not (nat_le (size_of self.now.la.now) (limit_of stop (size_of self.now.lb.now - 1))) }
+    {
+        let la = &*self.la;
+        let lb = &*self.lb;
+        stop.goes_on(size::<F>(la), size::<F>(lb))
     }
-}
 
-// Writes the first two rows, (x^D, 0) and (S, -1), for an s of D + 1 numbers.
-fn start<F: Field>(s: &[u16], pa: &mut [u16], pb: &mut [u16], la: &mut [u16], lb: &mut [u16])
-    requires some { 0 < length s.now }
-    requires lengths { Room (length s.now) pa.old pb.old la.old lb.old }
-    ensures { two_rows (row pa.new pb.new) (row la.new lb.new) ≡ start_of F.Field.numbers (length s.now - 1) s.now }
-{
-    pa.fill(0);
-    pa[s.len() - 1] = 1;
-    pb.fill(0);
-    la.copy_from_slice(s);
-    lb.fill(0);
-    lb[0] = F::neg(1);
-}
+    // One step: the last row becomes the one before, and the next row the last.
+    fn step<F: Field>(&mut self)
+        requires first { Fits F.Field.numbers.q (length self.old.la.now) (row self.old.pa.now self.old.pb.now) }
+        requires second { Fits F.Field.numbers.q (length self.old.la.now) (row self.old.la.now self.old.lb.now) }
+        requires some { 0 < size_of self.old.la.now }
+        ensures areas { SameAreas self.old self.new }
+        ensures before { row self.new.pa.now self.new.pb.now ≡ row self.old.la.now self.old.lb.now }
+        ensures last { row self.new.la.now self.new.lb.now ≡ next F.Field.numbers (row self.old.pa.now self.old.pb.now) (row self.old.la.now self.old.lb.now) }
+    {
+        let pa = &mut *self.pa;
+        let pb = &mut *self.pb;
+        let la = &mut *self.la;
+        let lb = &mut *self.lb;
+        let m = size::<F>(la) - 1;
+        let turns = size::<F>(pa).saturating_sub(m);
+        divide_row::<F>(pa, pb, la, lb, m, turns);
+        pa.swap_with_slice(la);
+        pb.swap_with_slice(lb);
+    }
 
-// The rows at which Euclid's algorithm on x^D and S stops, for an s of D + 1 numbers.
-pub fn rows<F: Field>(
-    stop: Stop,
-    s: &[u16],
-    pa: &mut [u16],
-    pb: &mut [u16],
-    la: &mut [u16],
-    lb: &mut [u16],
-)
-    requires some { 0 < length s.now }
-    requires all { AllBelow F.Field.numbers.q s.now }
-    requires lengths { Room (length s.now) pa.old pb.old la.old lb.old }
-    ensures { two_rows (row pa.new pb.new) (row la.new lb.new) ≡ rows_of F.Field.numbers (limit_of stop) (length s.now - 1) s.now }
-{
-    start::<F>(s, pa, pb, la, lb);
-    run::<F>(stop, pa, pb, la, lb);
+    // The run of the rows from these on, in their place.
+    fn run<F: Field>(&mut self, stop: Stop)
+        requires first { Fits F.Field.numbers.q (length self.old.la.now) (row self.old.pa.now self.old.pb.now) }
+        requires second { Fits F.Field.numbers.q (length self.old.la.now) (row self.old.la.now self.old.lb.now) }
+        ensures areas { SameAreas self.old self.new }
+        ensures run { two_rows (row self.new.pa.now self.new.pb.now) (row self.new.la.now self.new.lb.now) ≡ run_of F.Field.numbers (limit_of stop) (length self.old.la.now) (two_rows (row self.old.pa.now self.old.pb.now) (row self.old.la.now self.old.lb.now)) }
+    {
+        while self.goes_on::<F>(stop) {
+            self.step::<F>();
+        }
+    }
+
+    // Writes the first two rows, (x^D, 0) and (S, -1), for an s of D + 1 numbers.
+    fn start<F: Field>(&mut self, s: &[u16])
+        requires some { 0 < length s.now }
+        requires lengths { Room (length s.now) self.old.pa.now self.old.pb.now self.old.la.now self.old.lb.now }
+        ensures areas { SameAreas self.old self.new }
+        ensures lengths { Room (length s.now) self.new.pa.now self.new.pb.now self.new.la.now self.new.lb.now }
+        ensures start { two_rows (row self.new.pa.now self.new.pb.now) (row self.new.la.now self.new.lb.now) ≡ start_of F.Field.numbers (length s.now - 1) s.now }
+    {
+        let pa = &mut *self.pa;
+        let pb = &mut *self.pb;
+        let la = &mut *self.la;
+        let lb = &mut *self.lb;
+        pa.fill(0);
+        pa[s.len() - 1] = 1;
+        pb.fill(0);
+        la.copy_from_slice(s);
+        lb.fill(0);
+        lb[0] = F::neg(1);
+    }
+
+    // Writes the rows at which Euclid's algorithm on x^D and S stops, for an s of D + 1 numbers, whatever stood in the areas.
+    pub fn find<F: Field>(&mut self, stop: Stop, s: &[u16])
+        requires some { 0 < length s.now }
+        requires all { AllBelow F.Field.numbers.q s.now }
+        requires lengths { Room (length s.now) self.old.pa.now self.old.pb.now self.old.la.now self.old.lb.now }
+        ensures areas { SameAreas self.old self.new }
+        ensures rows { two_rows (row self.new.pa.now self.new.pb.now) (row self.new.la.now self.new.lb.now) ≡ rows_of F.Field.numbers (limit_of stop) (length s.now - 1) s.now }
+    {
+        self.start::<F>(s);
+        self.run::<F>(stop);
+    }
 }

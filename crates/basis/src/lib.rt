@@ -7,12 +7,12 @@ mod euclid;
 mod stage;
 mod syndromes;
 
-pub use euclid::{Stop, rows};
+pub use euclid::{LastRows, Stop};
 pub use stage::find_basis;
 pub use syndromes::syndrome;
 
 // What the first stage of a listing finds: the syndrome S, the rows (h10, h11) and (h20, h21) at which Euclid's algorithm stops, each the first d
-// numbers of an array, the lowest coefficient first, and the weights, which may be negative.
+// numbers of an array, the lowest coefficient first, and the weights, which may be negative. Arrays with a count beside them, since there is no heap.
 #[derive(Clone, Copy)]
 pub struct Basis {
     pub d: usize,

@@ -13,9 +13,9 @@ fn dual<F: Field>(points: &[u16], multipliers: &[u16], j: usize) -> u16
     ensures { result ≡ dual_of F.Field.numbers points.now multipliers.now j }
 {
     let mut product = 1;
-    for h in 0..points.len() {
+    for (h, point) in points.iter().enumerate() {
         if h != j {
-            product = F::mul(product, F::add(points[j], F::neg(points[h])));
+            product = F::mul(product, F::add(points[j], F::neg(*point)));
         }
     }
     F::mul(F::inv(multipliers[j]), F::inv(product))
@@ -28,13 +28,14 @@ fn add_powers<F: Field>(sums: &mut [u16], t: u16, alpha: u16)
     ensures { sums.new ≡ with_powers F.Field.numbers t alpha sums.old }
 {
     let mut power = t;
+    // By index: it goes backwards, and what is written through a reversed `iter_mut` is not known to a proof.
     for i in (0..sums.len()).rev() {
         sums[i] = F::add(sums[i], power);
         power = F::mul(power, alpha);
     }
 }
 
-// The syndrome of the shares, written to out: its D coefficients and a zero.
+// The syndrome of the shares, written to out: its D coefficients and a zero. It takes the three lists apart, since it asks less of them than `Received` says.
 pub fn syndrome<F: Field>(points: &[u16], multipliers: &[u16], shares: &[u16], out: &mut [u16])
     requires all { AllBelow F.Field.numbers.q points.now }
     requires same { length multipliers.now ≡ length points.now }
@@ -44,8 +45,8 @@ pub fn syndrome<F: Field>(points: &[u16], multipliers: &[u16], shares: &[u16], o
 {
     out.fill(0);
     let last = out.len() - 1;
-    for j in 0..points.len() {
-        let t = F::mul(shares[j], dual::<F>(points, multipliers, j));
+    for (j, share) in shares.iter().enumerate() {
+        let t = F::mul(*share, dual::<F>(points, multipliers, j));
         add_powers::<F>(&mut out[..last], t, points[j]);
     }
 }

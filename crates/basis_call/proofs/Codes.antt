@@ -8,11 +8,11 @@ use Rattle.codes.specs.First.{or_else, when}
 use Rattle.codes.specs.Codewords.{area_after}
 use Rattle.codes.specs.Valid.{NonZero}
 use Rattle.codes.specs.declared.Code.{Code}
-use Rattle.collections.specs.Standing.{page, standing, Over, Sound}
+use Rattle.collections.specs.Book.{Book}
+use Rattle.collections.proofs.Booked.{on_page}
+use Rattle.collections.specs.Standing.{opened_in, standing, Over, Sound}
 use Rattle.collections.specs.declared.Kept.{Kept}
 use Rattle.collections.specs.declared.Opened.{Opened}
-use Rattle.collections.specs.declared.State.{State}
-use Rattle.collections.specs.declared.State.TheVariants.{Open}
 use Rattle.gathering.specs.Shares.{numbers, gathering_fault}
 use Rattle.stages.specs.Coefficients.{listed}
 use Rattle.stages.specs.Syndrome.{coefficient, syndrome}
@@ -41,45 +41,37 @@ multipliers_room c = let e = c.multipliers_length in let b = c.places.1 in omega
 points_count : (o : Opened) → length (take o.code.count o.code.points) ≡ o.code.count
 points_count o = length-take-le o.code.count o.code.points (points_room o.code)
 
-pub over_by : (q : ℕ) (k : Kept) (o : Opened) → Sound q k → k.state ≡ Open o → o.code.q ≡ q
-over_by q k o s e = let h : Over q (Open o) = subst (λ (t : State). Over q t) e s.0 in h.0
+pub over_by : (q : ℕ) (k : Kept) (o : Opened) → Sound q k → opened_in k.page ≡ Some o → o.code.q ≡ q
+over_by q k o s e = let h : Over q (Some o) = subst (Over q) e s.0 in h.0
 
 -- an open collection: the check of the area is the last one
-module _ (q : ℕ) (k : Kept) (o : Opened) (told : List (Option ℕ)) (m : ℕ) (es : k.state ≡ Open o) (passed : gathering_fault q o.code.count told ≡ None) where
+module _ (q : ℕ) (k : Kept) (o : Opened) (told : List (Option ℕ)) (m : ℕ) (es : opened_in k.page ≡ Some o) (passed : gathering_fault q o.code.count told ≡ None) where
   pub fault_by : (f : Option ListingFault) → area_fault o.code.count o.code.threshold m ≡ f → basis_fault q (standing k) told m ≡ f
   fault_by f e =
-      ap (λ (s : State). basis_fault q (page s k.places.at) told m) es
+      ap (λ (b : Book). basis_fault q b told m) (on_page k.page o es)
       ∙ ap (λ (n : ℕ). or_else (gathering_fault q n told) (area_fault n o.code.threshold m)) (points_count o)
       ∙ ap (λ (x : Option ListingFault). or_else x (area_fault o.code.count o.code.threshold m)) passed ∙ e
-
--- where a gathering is refused, so is the call
-pub fault_early : (q : ℕ) (k : Kept) (o : Opened) (told : List (Option ℕ)) (m : ℕ) (f : ListingFault) → k.state ≡ Open o
-    → gathering_fault q o.code.count told ≡ Some f → basis_fault q (standing k) told m ≡ Some f
-fault_early q k o told m f es e =
-    ap (λ (s : State). basis_fault q (page s k.places.at) told m) es
-    ∙ ap (λ (n : ℕ). or_else (gathering_fault q n told) (area_fault n o.code.threshold m)) (points_count o)
-    ∙ ap (λ (x : Option ListingFault). or_else x (area_fault o.code.count o.code.threshold m)) e
 
 pub fits_area : (n k m : ℕ) → 5 * (n - k + 1) ≤ m → area_fault n k m ≡ None
 fits_area n k m h = ap (λ (t : Bool). when t (ResultArea m)) (le-ltb m (5 * (n - k + 1)) h)
 
 -- the basis of the book
-book_basis : (F : Numbers) (k : Kept) (o : Opened) (told : List (Option ℕ)) → k.state ≡ Open o
+book_basis : (F : Numbers) (k : Kept) (o : Opened) (told : List (Option ℕ)) → opened_in k.page ≡ Some o
     → basis_of F (standing k) told
     ≡ basis F (take o.code.count o.code.points) (take o.code.count o.code.multipliers) o.code.threshold (numbers told)
-book_basis F k o told es = ap (λ (s : State). basis_of F (page s k.places.at) told) es
+book_basis F k o told es = ap (λ (b : Book). basis_of F b told) (on_page k.page o es)
 
 syndrome_size : (F : Numbers) (αs vs : List ℕ) (D : ℕ) (rs : List ℕ) → length (syndrome F αs vs D rs) ≡ suc D
 unfolding syndrome
 syndrome_size F αs vs D rs = length-append (listed D (coefficient F αs vs D rs)) (0 ∷ []) ∙ ap (λ (n : ℕ). n + 1) (listed_length D (coefficient F αs vs D rs)) ∙ add-one D
 
-module _ (F : Numbers) (k : Kept) (o : Opened) (told : List (Option ℕ)) (shares : List ℕ) (r : Found) (es : k.state ≡ Open o) (read : shares ≡ numbers told)
+module _ (F : Numbers) (k : Kept) (o : Opened) (told : List (Option ℕ)) (shares : List ℕ) (r : Found) (es : opened_in k.page ≡ Some o) (read : shares ≡ numbers told)
     (finds : Finds (basis F (take o.code.count o.code.points) (take o.code.count o.code.multipliers) o.code.threshold shares) o.setting.radius r) where
   found : Finds (basis_of F (standing k) told) (radius_of (standing k)) r
   found =
       subst (λ (B : Basis). Finds B (radius_of (standing k)) r) (sym (book_basis F k o told es))
       (subst (λ (τ : ℕ). Finds (basis F (take o.code.count o.code.points) (take o.code.count o.code.multipliers) o.code.threshold (numbers told)) τ r)
-      (sym (ap (λ (s : State). radius_of (page s k.places.at)) es))
+      (sym (ap radius_of (on_page k.page o es)))
       (subst (λ (xs : List ℕ). Finds (basis F (take o.code.count o.code.points) (take o.code.count o.code.multipliers) o.code.threshold xs) o.setting.radius r) read finds))
 
   laid_is : laid r ≡ runs (basis_of F (standing k) told)

@@ -8,7 +8,7 @@ mod tests;
 pub use calling::write_basis;
 
 // The bounds on the degrees of a pair (f1, f2); negative where there is no such f1 or f2 but zero.
-#[derive(Clone, Copy)]
+#[derive(Clone, Copy, PartialEq, Eq, Debug)]
 pub struct Weights {
     pub w1: i16,
     pub w2: i16,

@@ -1,6 +1,4 @@
-ghost use Rattle.collections.specs.Standing.{Sound};
-
-use crate::write_basis;
+use crate::{Weights, write_basis};
 use codes::{Opening, Setting};
 use collections::Collection;
 use faults::CollectionFault;
@@ -12,10 +10,7 @@ const WRITTEN: [u16; 26] = [
 ];
 
 // Six places modulo 7, k = 2, τ = 3, s = 2, ℓ = 4.
-fn open(c: &mut Collection<Mod7>) -> Result<(), CollectionFault>
-    requires { Sound 7 c.old.kept }
-    ensures { Sound 7 c.new.kept }
-{
+fn open(c: &mut Collection<Mod7>) -> Result<(), CollectionFault> {
     c.open(Opening {
         points: &[1, 2, 3, 4, 5, 6],
         multipliers: &[1, 1, 1, 1, 1, 1],
@@ -28,38 +23,27 @@ fn open(c: &mut Collection<Mod7>) -> Result<(), CollectionFault>
     })
 }
 
-// The number of the refusal, 0 for an accepted call, and the weights.
-fn numbers(c: &Collection<Mod7>, out: &mut [u16]) -> (u8, i16, i16)
-    requires { Sound 7 c.now.kept }
-{
-    match write_basis(c, c, out) {
-        Ok(w) => (0, w.w1, w.w2),
-        Err(fault) => (fault.refusal().number, 0, 0),
-    }
+// The weights, or the number of the refusal: refusals are known by their numbers.
+fn written(c: &Collection<Mod7>, out: &mut [u16]) -> Result<Weights, u8> {
+    write_basis(c, c, out).map_err(|fault| fault.refusal().number)
 }
 
-fn fill(c: &mut Collection<Mod7>)
-    requires { Sound 7 c.old.kept }
-    ensures { Sound 7 c.new.kept }
-{
-    let _ = c.enter(0, 0);
-    let _ = c.enter(1, 0);
-    let _ = c.enter(2, 0);
-    let _ = c.enter(3, 5);
-    let _ = c.enter(4, 6);
-    let _ = c.enter(5, 0);
+fn fill(c: &mut Collection<Mod7>) {
+    for (place, value) in [0, 0, 0, 5, 6, 0].iter().enumerate() {
+        let _ = c.enter(place, *value);
+    }
 }
 
 #[test]
 fn the_worked_basis(rt: HostRuntime) {
     let mut c = Collection::<Mod7>::new();
     let mut out = [9; 26];
-    assert!(rt; numbers(&c, &mut out) == (20, 0, 0));
+    assert!(rt; written(&c, &mut out) == Err(20));
     assert!(rt; open(&mut c).is_ok());
-    assert!(rt; numbers(&c, &mut out) == (24, 0, 0));
+    assert!(rt; written(&c, &mut out) == Err(24));
     fill(&mut c);
-    assert!(rt; numbers(&c, &mut out[0..24]) == (10, 0, 0));
+    assert!(rt; written(&c, &mut out[0..24]) == Err(10));
     assert!(rt; out == [9; 26]);
-    assert!(rt; numbers(&c, &mut out) == (0, 0, 1));
+    assert!(rt; written(&c, &mut out) == Ok(Weights { w1: 0, w2: 1 }));
     assert!(rt; out == WRITTEN);
 }

@@ -2,12 +2,11 @@
 // nanoseconds a listing took to standard error.
 #![tactic(auto)]
 
-ghost use Rattle.collections.specs.Standing.{Sound};
-
 use candidates::Candidate;
 use codes::{Opening, propose};
 use collections::Collection;
 use collections::source::Source;
+use faults::ListingFault;
 use fields::{Field, Gf16, Gf256, Mod7, Mod929};
 use recovery::list;
 use std::io;
@@ -37,25 +36,20 @@ struct Case {
 }
 
 // Enters the word of the message, with an error at each of the first places, as many as the radius.
-fn fill<F: Field>(c: &mut Collection<F>, case: Case)
-    requires { Sound F.Field.numbers.q c.old.kept }
-    ensures { Sound F.Field.numbers.q c.new.kept }
-{
+fn fill<F: Field>(c: &mut Collection<F>, case: Case) {
     let k = usize::from(case.k).min(32);
     let mut word = [0; 32];
-    let _ = c.issue(&MESSAGE[0..k], &mut word);
-    let count = usize::from(case.n).min(32);
+    let _ = c.issue(&MESSAGE[..k], &mut word);
     let wrong = usize::from(case.radius);
-    for place in 0..count {
-        let error = if place < wrong { MULTIPLIERS[place] } else { 0 };
-        let _ = c.enter(place, F::add(word[place], error));
+    let shares = word.iter().zip(&MULTIPLIERS).take(usize::from(case.n));
+    for (place, (value, error)) in shares.enumerate() {
+        let error = if place < wrong { *error } else { 0 };
+        let _ = c.enter(place, F::add(*value, error));
     }
 }
 
 // A collection with such shares, under the setting that is proposed.
-fn prepare<F: Field>(case: Case) -> Collection<F>
-    ensures { Sound F.Field.numbers.q result.kept }
-{
+fn prepare<F: Field>(case: Case) -> Collection<F> {
     let mut c = Collection::<F>::new();
     let count = usize::from(case.n).min(32);
     if let Ok(setting) = propose(case.n, case.k, case.radius) {
@@ -70,27 +64,25 @@ fn prepare<F: Field>(case: Case) -> Collection<F>
     c
 }
 
-// Lists the shares so often; answers how many candidates there are, and 99 where a listing is refused.
+// Lists the shares so often; answers how many candidates the last listing found.
 fn list_often<F: Field>(
     c: &Collection<F>,
     rounds: u32,
     out: &mut [Candidate],
     work: &mut [u16],
-) -> usize
-    requires { Sound F.Field.numbers.q c.now.kept }
-{
+) -> Result<usize, ListingFault> {
     let mut count = 0;
     for _ in 0..rounds {
-        count = list::<F, Collection<F>>(c, c, out, work).unwrap_or(99);
+        count = list::<F, Collection<F>>(c, c, out, work)?;
     }
-    count
+    Ok(count)
 }
 
 fn time<F: Field>(rt: &HostRuntime, case: Case, work: &mut [u16]) -> io::Result<()> {
     let c = prepare::<F>(case);
     let mut out = [Candidate::BLANK; 8];
     let start = Instant::now(rt)?;
-    let count = list_often::<F>(&c, case.rounds, &mut out, work);
+    let listed = list_often::<F>(&c, case.rounds, &mut out, work);
     let took = start.elapsed(rt)?.as_nanos() / u128::from(case.rounds.max(1));
     let Case {
         n,
@@ -98,7 +90,10 @@ fn time<F: Field>(rt: &HostRuntime, case: Case, work: &mut [u16]) -> io::Result<
         radius,
         rounds,
     } = case;
-    let q = F::count();
+    let q = F::Q;
+    let Ok(count) = listed else {
+        return println!(rt; "elements {q} places {n} threshold {k} radius {radius} refused");
+    };
     println!(rt; "elements {q} places {n} threshold {k} radius {radius} candidates {count}")?;
     for found in out.iter().take(count) {
         let distance = found.distance;

@@ -133,7 +133,7 @@ module _ (w red : ℕ) (P : Primitive w red) where
   abbrev ◌·◌ : ℕ → ℕ → ℕ
   a · b = times w red a b
 
-  length_powers : length (powers w red) ≡ N
+  pub length_powers : length (powers w red) ≡ N
   unfolding powers
   length_powers = chain_length w red (2 ^ suc w - 1) 1
 

@@ -7,10 +7,10 @@ use Prim.Native.Nat.{ℕ, zero, suc, ◌+◌, ◌-◌, ◌%◌, ◌^◌, ◌<◌
 use native.Mathlib.Omega.{arith}
 use lib.Dec.{eqb}
 use borrow.Author.Tests.{ne_eqb}
-use lib.ListN.{get_or}
+use lib.ListN.{length, get_or}
 use Rattle.binary.specs.Binary.{product, inverse}
 use Rattle.binary.specs.Tables.{looked_up, looked_up_inverse}
-use Rattle.binary.proofs.Powers.{Primitive, powers, log, times}
+use Rattle.binary.proofs.Powers.{Primitive, powers, log, times, one_lt}
 use Rattle.binary.proofs.Products.{product_is, inverse_is}
 
 -- the exponents of n numbers from a on
@@ -21,6 +21,10 @@ exponents w red (suc n) a = log w red a ∷ exponents w red n (suc a)
 -- the exponents of 1, 2, .. below 2^(w + 1), after a 0 at the place of 0
 unfoldable pub logs : ℕ → ℕ → List ℕ
 logs w red = 0 ∷ exponents w red (2 ^ suc w - 1) 1
+
+exponents_length : (w red n a : ℕ) → length (exponents w red n a) ≡ n
+exponents_length w red zero a = refl
+exponents_length w red (suc n) a = ap suc (exponents_length w red n (suc a))
 
 exponent_at : (w red n a i : ℕ) → i < n → get_or (exponents w red n a) i 0 ≡ log w red (a + i)
 exponent_at w red zero a i h = absurd (let z : i < 0 = h in omega arith)
@@ -34,6 +38,10 @@ nonzero a = ne_eqb (suc a) 0 (λ (e : suc a ≡ 0). omega arith)
 module _ (w red : ℕ) (P : Primitive w red) where
   abbrev N : ℕ
   N = 2 ^ suc w - 1
+
+  pub length_logs : length (logs w red) ≡ 2 ^ suc w
+  unfolding logs
+  length_logs = let h = one_lt w red P in ap suc (exponents_length w red (2 ^ suc w - 1) 1) ∙ omega arith
 
   log_at : (a : ℕ) → suc a < 2 ^ suc w → get_or (logs w red) (suc a) 0 ≡ log w red (suc a)
   unfolding logs

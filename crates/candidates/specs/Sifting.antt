@@ -1,4 +1,4 @@
--- Pairs of numbers, to be sifted, in this order: the locator of a pair, what is asked of a pair and of all else that a sift is given; the candidate
+-- Pairs of numbers, to be sifted, in this order: the locator of a pair, what is asked of a pair, and of the numbers of places and of room; the candidate
 -- that is sifted from a pair, and those from a list of pairs; and that these are all candidates near the shares. Each statement is of every code with the
 -- given points and multipliers, of which there is one.
 use Rattle.std.specs.Prelude.{◌≡◌, ℕ, ◌+◌, ◌-◌, ◌*◌, ◌<◌, ◌≤◌, ◌⊎◌, List, length, Option}
@@ -12,7 +12,7 @@ use Rattle.fields.specs.Numbers.{Numbers, AllBelow, Element, ring_of, field_of}
 use Rattle.polynomials.specs.Series.{poly}
 use Rattle.leaves.specs.declared.pairs.Pair.{Pair}
 use Rattle.rolls.specs.Order.{Has, Lists}
-use Rattle.sift.specs.Received.{Placed, Describes}
+use Rattle.sift.specs.Received.{Describes}
 use Rattle.candidates.specs.declared.records.Candidate.{Candidate}
 use Rattle.candidates.specs.Order.{in_order}
 use Rattle.candidates.specs.Telling.{Passing, Close, Only}
@@ -27,15 +27,12 @@ pub record Usable (F : Numbers) (n k : ℕ) (h₁ h₂ : List ℕ) (p : Pair) : 
   pub second : AllBelow F.q p.second
   pub low : Below (ring_of F) (n - k + 1) (locator F h₁ h₂ p)
 
--- points, multipliers and shares of 32 places at most, a threshold below their count, two rows of elements, and room to work in
-pub record Ready (F : Numbers) (αs vs rs h₁ h₂ : List ℕ) (k room : ℕ) : Type 0 where
-  pub placed : Placed F αs vs rs
-  pub few : length αs ≤ 32
-  pub fewer : k < length αs
-  pub first_row : AllBelow F.q h₁
-  pub second_row : AllBelow F.q h₂
-  pub fits : 32 + length h₁ + length αs + 3 * k + 1 ≤ room
-  pub fits_too : 32 + length h₂ + length αs + 3 * k + 1 ≤ room
+-- n places, 32 at most and more than the threshold k, and room to work in beside rows of l₁ and l₂ numbers
+pub record Roomy (n k l₁ l₂ room : ℕ) : Type 0 where
+  pub few : n ≤ 32
+  pub fewer : k < n
+  pub fits : 32 + l₁ + n + 3 * k + 1 ≤ room
+  pub fits_too : 32 + l₂ + n + 3 * k + 1 ≤ room
 
 -- the answer is the candidate that is sifted from the pair, or that there is none
 abbrev pub SiftedFrom : (F : Numbers) → List ℕ → List ℕ → List ℕ → List ℕ → List ℕ → ℕ → ℕ → Pair → Option Candidate → Type 0

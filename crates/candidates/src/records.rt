@@ -1,43 +1,29 @@
-// Candidates as records, and their order. Only this file compares the parts of a record, and only `sift_pair` writes them.
-ghost use Rattle.std.specs.Prelude.{◌≡◌};
+// Candidates as records, and their order. Only `sift_pair` writes the parts of a record.
 ghost use Rattle.candidates.specs.Order.{in_order};
-ghost use Rattle.candidates.specs.Orders.{in_order_total};
+ghost use Rattle.candidates.specs.Orders.{candidates_compare};
 
-use rolls::{Ordered, comes_before};
+use rolls::Ordered;
 
-// A word that may have been issued: how far it is from the shares, its message and its values, with zeros beyond both.
-#[derive(Clone, Copy)]
+// A word that may have been issued: its values, how far it is from the shares, and its message, with zeros beyond the values and the message.
+// Candidates are in dictionary order of the values, then by the distance, then in dictionary order of the message.
+#[derive(Clone, Copy, PartialEq, Eq, PartialOrd, Ord)]
 pub struct Candidate {
+    pub word: [u16; 32],
     pub distance: u8,
     pub message: [u16; 32],
-    pub word: [u16; 32],
 }
 
 impl Candidate {
     // What stands where there is no candidate.
     pub const BLANK: Candidate = Candidate {
+        word: [0; 32],
         distance: 0,
         message: [0; 32],
-        word: [0; 32],
     };
 }
 
-// Dictionary order of the values, then the distance, then dictionary order of the message.
 impl Ordered for Candidate {
     ghost less = { in_order };
 
-    ghost order = { in_order_total };
-
-    fn precedes(&self, other: &Candidate) -> bool {
-        if comes_before(&self.word, &other.word) {
-            return true;
-        }
-        if comes_before(&other.word, &self.word) {
-            return false;
-        }
-        if self.distance != other.distance {
-            return self.distance < other.distance;
-        }
-        comes_before(&self.message, &other.message)
-    }
+    ghost order = { candidates_compare };
 }

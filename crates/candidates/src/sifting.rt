@@ -3,33 +3,22 @@ ghost use Rattle.std.specs.Prelude.{◌≡◌, ◌+◌, ◌-◌, ◌<◌, ◌≤
 ghost use Rattle.rolls.specs.Order.{Ascending, Has};
 ghost use Rattle.candidates.specs.Order.{in_order};
 ghost use Rattle.candidates.specs.Telling.{blank};
-ghost use Rattle.candidates.specs.Sifting.{Usable, Ready, SiftedFrom, Enters, ListsSifted, ListsNear};
+ghost use Rattle.candidates.specs.Sifting.{Usable, Roomy, SiftedFrom, Enters, ListsSifted, ListsNear};
 
 use crate::records::Candidate;
 use fields::Field;
 use leaves::Pair;
 use rolls::Roll;
-use sift::{Received, Rows, sift};
+use sift::Sieve;
 
 // The candidate of the word that passes the sift by the pair, if one does.
-pub fn sift_pair<F: Field>(
-    received: Received<'_>,
-    threshold: usize,
-    radius: usize,
-    rows: Rows<'_>,
-    pair: &Pair,
-    work: &mut [u16],
-) -> Option<Candidate>
-    requires ready { Ready F.Field.numbers received.points.now received.multipliers.now received.shares.now rows.h1.now rows.h2.now threshold (length work.old) }
-    requires usable { Usable F.Field.numbers (length received.points.now) threshold rows.h1.now rows.h2.now pair.now }
-    ensures { SiftedFrom F.Field.numbers received.entry.points.now received.entry.multipliers.now received.entry.shares.now rows.entry.h1.now rows.entry.h2.now threshold radius pair.now result }
+pub fn sift_pair<F: Field>(sieve: &Sieve<'_, F>, pair: &Pair, work: &mut [u16]) -> Option<Candidate>
+    requires roomy { Roomy (length sieve.now.received.points.now) sieve.now.threshold (length sieve.now.h1.now) (length sieve.now.h2.now) (length work.old) }
+    requires usable { Usable F.Field.numbers (length sieve.now.received.points.now) sieve.now.threshold sieve.now.h1.now sieve.now.h2.now pair.now }
+    ensures { SiftedFrom F.Field.numbers sieve.now.received.points.now sieve.now.received.multipliers.now sieve.now.received.shares.now sieve.now.h1.now sieve.now.h2.now sieve.now.threshold sieve.now.radius pair.now result }
 {
     let mut found = Candidate::BLANK;
-    let distance = sift::<F>(
-        received,
-        threshold,
-        radius,
-        rows,
+    let distance = sieve.sift(
         &pair.first,
         &pair.second,
         work,
@@ -42,24 +31,21 @@ pub fn sift_pair<F: Field>(
 
 // Sifts the pair, and enters the candidate of the word that passes into the roll.
 fn enter<F: Field>(
-    received: Received<'_>,
-    threshold: usize,
-    radius: usize,
-    rows: Rows<'_>,
+    sieve: &Sieve<'_, F>,
     pair: &Pair,
     work: &mut [u16],
     roll: &mut Roll<'_, Candidate>,
 )
-    requires ready { Ready F.Field.numbers received.points.now received.multipliers.now received.shares.now rows.h1.now rows.h2.now threshold (length work.old) }
-    requires usable { Usable F.Field.numbers (length received.points.now) threshold rows.h1.now rows.h2.now pair.now }
+    requires roomy { Roomy (length sieve.now.received.points.now) sieve.now.threshold (length sieve.now.h1.now) (length sieve.now.h2.now) (length work.old) }
+    requires usable { Usable F.Field.numbers (length sieve.now.received.points.now) sieve.now.threshold sieve.now.h1.now sieve.now.h2.now pair.now }
     requires space { roll.old.len < length roll.old.slots.now }
     requires ascending { Ascending in_order (take roll.old.len roll.old.slots.now) }
-    ensures entered { Enters F.Field.numbers received.entry.points.now received.entry.multipliers.now received.entry.shares.now rows.entry.h1.now rows.entry.h2.now threshold radius pair.now (take roll.old.len roll.old.slots.now) (take roll.new.len roll.new.slots.now) }
+    ensures entered { Enters F.Field.numbers sieve.now.received.points.now sieve.now.received.multipliers.now sieve.now.received.shares.now sieve.now.h1.now sieve.now.h2.now sieve.now.threshold sieve.now.radius pair.now (take roll.old.len roll.old.slots.now) (take roll.new.len roll.new.slots.now) }
     ensures grows { roll.new.len ≤ roll.old.len + 1 }
     ensures room { length roll.new.slots.now ≡ length roll.old.slots.now }
     ensures lender { roll.new.slots.ghost_name ≡ roll.old.slots.ghost_name }
 {
-    let Some(found) = sift_pair::<F>(received, threshold, radius, rows, pair, work) else {
+    let Some(found) = sift_pair(sieve, pair, work) else {
         return;
     };
     // There is a free slot, so the answer is never that the roll is full.
@@ -69,25 +55,22 @@ fn enter<F: Field>(
 // The candidates of the words that pass the sift by one of the pairs, in order and each once, written to the slots; blank records follow them. The
 // answer is how many there are.
 pub fn sift_pairs<F: Field>(
-    received: Received<'_>,
-    threshold: usize,
-    radius: usize,
-    rows: Rows<'_>,
+    sieve: &Sieve<'_, F>,
     pairs: &[Pair],
     work: &mut [u16],
     slots: &mut [Candidate],
 ) -> usize
-    requires ready { Ready F.Field.numbers received.points.now received.multipliers.now received.shares.now rows.h1.now rows.h2.now threshold (length work.old) }
-    requires usable { (p : Pair) → Has p pairs.now → Usable F.Field.numbers (length received.points.now) threshold rows.h1.now rows.h2.now p }
+    requires roomy { Roomy (length sieve.now.received.points.now) sieve.now.threshold (length sieve.now.h1.now) (length sieve.now.h2.now) (length work.old) }
+    requires usable { (p : Pair) → Has p pairs.now → Usable F.Field.numbers (length sieve.now.received.points.now) sieve.now.threshold sieve.now.h1.now sieve.now.h2.now p }
     requires space { length pairs.now ≤ length slots.old }
     ensures count { result ≤ length pairs.now }
-    ensures sifted { ListsSifted F.Field.numbers received.entry.points.now received.entry.multipliers.now received.entry.shares.now rows.entry.h1.now rows.entry.h2.now threshold radius pairs.now (take result slots.new) }
-    ensures near { ListsNear F.Field.numbers received.entry.points.now received.entry.multipliers.now received.entry.shares.now rows.entry.h1.now rows.entry.h2.now threshold radius pairs.now (take result slots.new) }
+    ensures sifted { ListsSifted F.Field.numbers sieve.now.received.points.now sieve.now.received.multipliers.now sieve.now.received.shares.now sieve.now.h1.now sieve.now.h2.now sieve.now.threshold sieve.now.radius pairs.now (take result slots.new) }
+    ensures near { ListsNear F.Field.numbers sieve.now.received.points.now sieve.now.received.multipliers.now sieve.now.received.shares.now sieve.now.h1.now sieve.now.h2.now sieve.now.threshold sieve.now.radius pairs.now (take result slots.new) }
     ensures beyond { slots.new ≡ take result slots.new ++ replicate (length slots.old - result) blank }
 {
     let mut roll = Roll::new(slots);
     for pair in pairs {
-        enter::<F>(received, threshold, radius, rows, pair, work, &mut roll);
+        enter(sieve, pair, work, &mut roll);
     }
     roll.close(Candidate::BLANK)
 }

@@ -1,23 +1,10 @@
 -- The computed acceptance of a setting is that of the decoder's theory.
-use Rattle.std.proofs.Common.{◌≡◌, ℕ, zero, suc, ◌+◌, ◌-◌, ◌*◌, ◌<◌, ◌≤◌, leb, ◌⊎◌, Decides, inl, inr, mul-le-mul, arith, w32, Fits}
+use Rattle.std.proofs.Common.{◌≡◌, ℕ, zero, suc, ◌+◌, ◌-◌, ◌*◌, ◌<◌, ◌≤◌, leb, ◌⊎◌, Decides, inl, inr, arith}
 use native.Mathlib.Decide.{dec_lt}
 use Rattle.std.proofs.lemmas.Bool.Decides.{nat_tests, Decides-and, Decides-or, Decides-ltb, Decides-like}
 use Rattle.decoding.specs.Setting.{minimum_distance, Reach, Accepted}
 use Rattle.decoding.proofs.Setting.{below_distance, enough_left, multiplicity_below}
 use Rattle.codes.specs.Settings.{conditions, reaches, accepts, Consequences}
-
--- the sum in the rule fits 32 bits for any bytes
-pub sum_fits : (n s l x : ℕ) → n < 256 → s < 256 → l < 256 → x < 512 → Fits w32 (n * (s * (s + 1)) + l * (l + 1) * x)
-sum_fits n s l x hn hs hl hx =
-    let s₀ : s ≤ 255 = omega arith in
-    let s₁ : s + 1 ≤ 256 = omega arith in
-    let l₀ : l ≤ 255 = omega arith in
-    let l₁ : l + 1 ≤ 256 = omega arith in
-    let n₀ : n ≤ 255 = omega arith in
-    let x₀ : x ≤ 511 = omega arith in
-    let a : n * (s * (s + 1)) ≤ 255 * (255 * 256) = mul-le-mul n₀ (mul-le-mul s₀ s₁) in
-    let b : l * (l + 1) * x ≤ 255 * 256 * 511 = mul-le-mul (mul-le-mul l₀ l₁) x₀ in
-    omega arith
 
 decides_leb : (a b : ℕ) → Decides (leb a b) (a ≤ b)
 decides_leb a b = grind (arith, nat_tests)

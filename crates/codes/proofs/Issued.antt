@@ -1,29 +1,25 @@
 -- Evaluating a message from its last number, and writing a codeword place by place.
-use Rattle.std.proofs.Common.{◌≡◌, ℕ, ◌+◌, ◌-◌, ◌<◌, ◌≤◌, ltb, List, [], ◌∷◌, ◌++◌, map, length, get_or, drop, set, None, Option, sym, ap, ◌∙◌, arith}
-use Rattle.std.specs.List.{range_with_len}
-use Rattle.std.proofs.lemmas.List.{drop_more, drop_all, set_at, append_assoc}
+use Rattle.std.proofs.Common.{◌≡◌, ℕ, ◌+◌, ◌<◌, List, [], ◌∷◌, ◌++◌, map, length, get_or, drop, reverse, set, sym, refl, ap, ◌∙◌, arith}
+use Rattle.std.specs.List.{range_with_len, fold}
+use Rattle.std.proofs.lemmas.Grind.{reverse_onto}
+use Rattle.std.proofs.lemmas.List.Sums.{fold-append}
+use Rattle.std.proofs.lemmas.List.{drop_more, set_at, append_assoc}
 use Rattle.std.proofs.lemmas.List.FromFn.{length-map-range_with_len, map-range_with_len_more}
 use Rattle.fields.specs.Numbers.{Numbers}
-use Rattle.std.proofs.lemmas.Bool.{le-ltb}
-use Rattle.faults.specs.declared.ListingFault.{ListingFault}
-use Rattle.faults.specs.declared.ListingFault.TheVariants.{ResultArea}
-use Rattle.codes.specs.First.{or_else, when}
-use Rattle.codes.specs.Codewords.{value, codeword, message_fault, issue_fault, area_after}
-use Rattle.codes.proofs.Firsts.{when_false}
+use Rattle.codes.specs.Codewords.{value}
 
 module _ (F : Numbers) where
-  pub value_none : (x : ℕ) (message : List ℕ) → 0 ≡ value F x (drop (length message) message)
-  unfolding value
-  value_none x message = sym (ap (value F x) (drop_all (length message) message (omega arith)))
+  -- one number more for a message read from its last number
+  abbrev step : ℕ → ℕ → ℕ → ℕ
+  step x sum c = F.add c (F.mul x sum)
 
-  pub value_more : (x i sum : ℕ) (message : List ℕ) → 0 < i → i ≤ length message → sum ≡ value F x (drop i message)
-      → F.add (get_or message (i - 1) 0) (F.mul x sum) ≡ value F x (drop (i - 1) message)
+  pub value_fold : (x : ℕ) (message : List ℕ) → fold (step x) 0 (reverse message) ≡ value F x message
   unfolding value
-  value_more x i sum message p h e =
-      let back : i ≡ i - 1 + 1 = omega arith in
-      let less : i - 1 < length message = omega arith in
-      ap (λ (s : ℕ). F.add (get_or message (i - 1) 0) (F.mul x s)) (e ∙ ap (λ (j : ℕ). value F x (drop j message)) back)
-      ∙ sym (ap (value F x) (drop_more message (i - 1) 0 less))
+  value_fold x [] = refl
+  value_fold x (c ∷ cs) =
+      ap (fold (step x) 0) (reverse_onto cs c [])
+      ∙ fold-append (step x) 0 (reverse cs) (c ∷ [])
+      ∙ ap (λ (s : ℕ). step x s c) (value_fold x cs)
 
   -- the number at the place i
   abbrev pub at_place : List ℕ → List ℕ → List ℕ → ℕ → ℕ
@@ -44,22 +40,3 @@ written_more f i y before now h e w =
     ∙ sym
     (ap (λ (xs : List ℕ). xs ++ drop (i + 1) before) (map-range_with_len_more f 0 i i (omega arith))
     ∙ append_assoc (map f (range_with_len 0 i)) (f i ∷ []) (drop (i + 1) before))
-
--- the word of lists that are read stands in front of the rest of the area
-pub placed : (F : Numbers) (points points' multipliers multipliers' message before now : List ℕ) → points ≡ points' → multipliers ≡ multipliers'
-    → now ≡ codeword F points multipliers message ++ drop (length points) before
-    → now ≡ area_after None (codeword F points' multipliers' message) before
-placed F points points' multipliers multipliers' message before now p m e =
-    e
-    ∙ ap (λ (j : ℕ). codeword F points multipliers message ++ drop j before)
-    (sym (length-map-range_with_len (at_place F points multipliers message) 0 (length points)))
-    ∙ ap (λ (xs : List ℕ). area_after None (codeword F xs multipliers message) before) p
-    ∙ ap (λ (xs : List ℕ). area_after None (codeword F points' xs message) before) m
-
-pub accepted : (q q' n k k' m : ℕ) (message : List ℕ) → q' ≡ q → k' ≡ k → None ≡ message_fault q' k' message → n ≤ m
-    → None ≡ issue_fault q n k m message
-accepted q q' n k k' m message a b e h =
-    sym
-    (ap (λ (o : Option ListingFault). or_else o (when (ltb m n) (ResultArea m)))
-    (ap (λ (z : ℕ). message_fault z k message) (sym a) ∙ ap (λ (z : ℕ). message_fault q' z message) (sym b) ∙ sym e)
-    ∙ when_false (ltb m n) (ResultArea m) (le-ltb m n h))

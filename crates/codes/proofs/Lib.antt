@@ -6,3 +6,5 @@ pub mod Proposals
 pub mod Meanings
 pub mod Examples
 pub mod Exactly
+pub mod Areas
+pub mod Mapped

@@ -1,6 +1,6 @@
 -- Settings (τ, s, ℓ) for a code of n places with the threshold k: which are accepted, which are small, and which is proposed. Then what that means: acceptance is
 -- that of the decoder's theory, and the proposed setting is the least.
-use Rattle.std.specs.Prelude.{◌≡◌, ℕ, ◌+◌, ◌-◌, ◌*◌, ◌/◌, ◌<◌, ◌≤◌, Bool, ◌&&◌, ◌||◌, ◌⊎◌, Option, Result, MatchResult, ◌==◌, nat_le, nat_lt}
+use Rattle.std.specs.Prelude.{◌≡◌, ℕ, ◌+◌, ◌-◌, ◌*◌, ◌/◌, ◌<◌, ◌≤◌, Bool, cond, ◌&&◌, ◌||◌, ◌⊎◌, Option, Result, MatchResult, ◌==◌, nat_le, nat_lt}
 use Rattle.std.specs.Option.{ok_or}
 use Rattle.faults.specs.declared.CodeFault.{CodeFault}
 use Rattle.faults.specs.declared.CodeFault.TheVariants.{PlaceCount, Threshold, NoSetting}
@@ -27,6 +27,10 @@ accepts n k τ s ℓ = (nat_le 1 k && nat_lt k n) && (workable n s ℓ && reache
 
 abbrev pub small : ℕ → ℕ → Bool
 small n s = nat_le n 16 && nat_le (conditions n s) 120
+
+-- the numbers of work area that a listing takes
+abbrev pub work_area : ℕ → Setting → ℕ
+work_area n x = cond (small n x.multiplicity) 32000 400000
 
 -- the setting, if it is accepted
 unfoldable pub accepted_setting : ℕ → ℕ → ℕ → ℕ → ℕ → Option Setting

@@ -1,6 +1,6 @@
 ghost use Rattle.std.specs.Prelude.{◌≡◌, ◌<◌, ◌≤◌, length, take, IfOk};
 ghost use Rattle.decoding.specs.Setting.{Accepted};
-ghost use Rattle.codes.specs.Opening.{given, unfit as unfit_at, repeats as repeats_at, first_unfit, first_repeat, count_fault, threshold_fault, place_fault, setting_fault, first_fault, fault_of, Holds};
+ghost use Rattle.codes.specs.Opening.{given, first_unfit, first_repeat, count_fault, threshold_fault, place_fault, setting_fault, first_fault, fault_of, Holds};
 
 use crate::{Code, Opening, Setting};
 use faults::CodeFault;
@@ -9,37 +9,14 @@ use faults::CodeFault;
 fn first_unfit(q: u16, xs: &[u16]) -> Option<usize>
     ensures { result ≡ first_unfit q xs.now }
 {
-    for (i, x) in xs.iter().enumerate() {
-        if *x == 0 || *x >= q {
-            return Some(i);
-        }
-    }
-    None
-}
-
-// Whether the number at place i stands at an earlier place too.
-fn repeats(xs: &[u16], i: usize) -> bool
-    requires { i < length xs.now }
-    ensures { result ≡ repeats_at xs.now i }
-{
-    for j in 0..i {
-        if xs[j] == xs[i] {
-            return true;
-        }
-    }
-    false
+    xs.iter().position(|x| *x == 0 || *x >= q)
 }
 
 // The first place whose number stands at an earlier place too.
 fn first_repeat(xs: &[u16]) -> Option<usize>
     ensures { result ≡ first_repeat xs.now }
 {
-    for i in 0..xs.len() {
-        if repeats(xs, i) {
-            return Some(i);
-        }
-    }
-    None
+    (0..xs.len()).find(|i| xs[..*i].contains(&xs[*i]))
 }
 
 // The numbers with zeros behind them.
@@ -49,7 +26,7 @@ fn padded(xs: &[u16]) -> [u16; 32]
     ensures front { take (length xs.now) result ≡ xs.now }
 {
     let mut at = [0; 32];
-    at[0..xs.len()].copy_from_slice(xs);
+    at[..xs.len()].copy_from_slice(xs);
     at
 }
 

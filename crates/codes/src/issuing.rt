@@ -10,11 +10,10 @@ use fields::Field;
 fn value<F: Field>(x: u16, message: &[u16]) -> u16
     ensures { result ≡ value_of F.Field.numbers x message.now }
 {
-    let mut sum = 0;
-    for i in (0..message.len()).rev() {
-        sum = F::add(message[i], F::mul(x, sum));
-    }
-    sum
+    message
+        .iter()
+        .rev()
+        .fold(0, |sum, c| F::add(*c, F::mul(x, sum)))
 }
 
 // Writes the codeword of the message at the front of the area.
@@ -23,22 +22,17 @@ fn write_codeword<F: Field>(points: &[u16], multipliers: &[u16], message: &[u16]
     requires room { length points.now ≤ length out.old }
     ensures { out.new ≡ codeword F.Field.numbers points.now multipliers.now message.now ++ drop (length points.now) out.old }
 {
-    for i in 0..points.len() {
-        out[i] = F::mul(multipliers[i], value::<F>(points[i], message));
+    for (i, place) in out[..points.len()].iter_mut().enumerate() {
+        *place = F::mul(multipliers[i], value::<F>(points[i], message));
     }
 }
 
 // The first place of a number that is no element of a field of q elements.
-fn first_beyond(q: u16, xs: &[u16]) -> Option<usize>
+pub fn first_beyond(q: u16, xs: &[u16]) -> Option<usize>
     ensures is { result ≡ first_beyond q xs.now }
     ensures within { IfSome result (λ i. i < length xs.now) }
 {
-    for (i, x) in xs.iter().enumerate() {
-        if *x >= q {
-            return Some(i);
-        }
-    }
-    None
+    xs.iter().position(|x| *x >= q)
 }
 
 fn check_message(q: u16, threshold: u8, message: &[u16]) -> Result<(), ListingFault>
@@ -62,7 +56,7 @@ pub fn issue<F: Field>(code: &Code, message: &[u16], out: &mut [u16]) -> Result<
     ensures fault { fault_of result ≡ issue_fault F.Field.numbers.q code.now.count code.now.threshold (length out.old) message.now }
     ensures area { out.new ≡ area_after (fault_of result) (codeword_of F.Field.numbers code.now message.now) out.old }
 {
-    check_message(F::count(), code.threshold(), message)?;
+    check_message(F::Q, code.threshold(), message)?;
     let length = out.len();
     if length < code.count() {
         return Err(ListingFault::ResultArea { length });

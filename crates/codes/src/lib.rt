@@ -10,11 +10,11 @@ mod proposing;
 mod settings;
 pub mod theorems;
 
-pub use issuing::issue;
+pub use issuing::{first_beyond, issue};
 pub use proposing::propose;
 
 // A radius τ, a multiplicity s and a list limit ℓ.
-#[derive(Clone, Copy)]
+#[derive(Clone, Copy, PartialEq, Eq, Debug)]
 pub struct Setting {
     pub radius: u8,
     pub multiplicity: u8,
@@ -31,6 +31,7 @@ pub struct Opening<'a> {
 }
 
 // A code that was checked against a field of q elements. Beyond its places the arrays are zero.
+// Arrays with their count: codes live in fixed memory, without a heap.
 #[derive(Clone, Copy)]
 pub struct Code {
     q: u16,
@@ -50,10 +51,16 @@ pub struct Code {
 #[cfg(test)]
 mod tests {
     use super::*;
+    use faults::CodeFault;
     use fields::Mod7;
 
-    // The number of the refusal of an opening modulo 7 with radius 3 and multiplicity 2, or 0.
-    fn refused<'a>(points: &'a [u16], multipliers: &'a [u16], threshold: u8, list_limit: u8) -> u8 {
+    // What is wrong with an opening modulo 7 with radius 3 and multiplicity 2, and its number.
+    fn fault<'a>(
+        points: &'a [u16],
+        multipliers: &'a [u16],
+        threshold: u8,
+        list_limit: u8,
+    ) -> Option<(u8, CodeFault)> {
         let setting = Setting {
             radius: 3,
             multiplicity: 2,
@@ -66,8 +73,8 @@ mod tests {
             setting,
         };
         match given.check(7) {
-            Ok(_) => 0,
-            Err(e) => e.refusal().number,
+            Ok(_) => None,
+            Err(e) => Some((e.refusal().number, e)),
         }
     }
 
@@ -75,13 +82,40 @@ mod tests {
     #[test]
     fn first_check_refuses(rt: HostRuntime) {
         let multipliers = [1, 1, 0, 1, 1, 1];
-        assert_eq!(rt; refused(&[1, 7, 3, 1, 5], &multipliers, 6, 3), 1);
-        assert_eq!(rt; refused(&[1, 7, 3, 1, 5, 6], &multipliers, 6, 3), 2);
-        assert_eq!(rt; refused(&[1, 2, 3, 1, 5, 7], &multipliers, 2, 3), 3);
-        assert_eq!(rt; refused(&[1, 2, 3, 1, 5, 6], &multipliers, 2, 3), 4);
-        assert_eq!(rt; refused(&[1, 2, 3, 4, 5, 6], &multipliers, 2, 3), 5);
-        assert_eq!(rt; refused(&[1, 2, 3, 4, 5, 6], &[1; 6], 2, 3), 6);
-        assert_eq!(rt; refused(&[1, 2, 3, 4, 5, 6], &[1; 6], 2, 4), 0);
+        let setting = CodeFault::Setting {
+            radius: 3,
+            multiplicity: 2,
+            list_limit: 3,
+        };
+        let count = CodeFault::PlaceCount {
+            points: 5,
+            multipliers: 6,
+        };
+        assert_eq!(rt;
+            fault(&[1, 7, 3, 1, 5], &multipliers, 6, 3),
+            Some((1, count))
+        );
+        assert_eq!(rt;
+            fault(&[1, 7, 3, 1, 5, 6], &multipliers, 6, 3),
+            Some((2, CodeFault::Threshold { threshold: 6 }))
+        );
+        assert_eq!(rt;
+            fault(&[1, 2, 3, 1, 5, 7], &multipliers, 2, 3),
+            Some((3, CodeFault::Point { place: 5 }))
+        );
+        assert_eq!(rt;
+            fault(&[1, 2, 3, 1, 5, 6], &multipliers, 2, 3),
+            Some((4, CodeFault::RepeatedPoint { place: 3 }))
+        );
+        assert_eq!(rt;
+            fault(&[1, 2, 3, 4, 5, 6], &multipliers, 2, 3),
+            Some((5, CodeFault::Multiplier { place: 2 }))
+        );
+        assert_eq!(rt;
+            fault(&[1, 2, 3, 4, 5, 6], &[1; 6], 2, 3),
+            Some((6, setting))
+        );
+        assert_eq!(rt; fault(&[1, 2, 3, 4, 5, 6], &[1; 6], 2, 4), None);
     }
 
     // The area after issuing by a code of three places modulo 7, 9 where nothing was written.

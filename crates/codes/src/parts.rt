@@ -27,19 +27,13 @@ impl Code {
     pub fn points(&self) -> &[u16]
         ensures { result.now ≡ take self.now.count self.now.points }
     {
-        let Code { count, points, .. } = self;
-        &points[0..*count]
+        &self.points[..self.count]
     }
 
     // The multipliers of the places, in their order.
     pub fn multipliers(&self) -> &[u16]
         ensures { result.now ≡ take self.now.count self.now.multipliers }
     {
-        let Code {
-            count,
-            multipliers,
-            ..
-        } = self;
-        &multipliers[0..*count]
+        &self.multipliers[..self.count]
     }
 }

@@ -4,34 +4,35 @@ ghost use Rattle.codes.specs.Settings.{least_limit, least_setting, proposal, Pro
 use crate::Setting;
 use faults::CodeFault;
 
-// The setting with the least list limit for this multiplicity.
-fn least_limit(n: u8, k: u8, radius: u8, multiplicity: u8) -> Option<Setting>
-    ensures { result ≡ least_limit n k radius multiplicity }
-{
-    for list_limit in 1..9 {
-        let setting = Setting {
-            radius,
-            multiplicity,
-            list_limit,
-        };
-        if setting.is_accepted(n, k) {
-            return Some(setting);
-        }
-    }
-    None
+// What a setting is proposed for: the number of places n, the threshold k and a radius.
+#[derive(Clone, Copy)]
+struct Wanted {
+    n: u8,
+    k: u8,
+    radius: u8,
 }
 
-// The setting with the least multiplicity, and for it the least list limit.
-fn least_setting(n: u8, k: u8, radius: u8) -> Option<Setting>
-    ensures { result ≡ least_setting n k radius }
-{
-    for multiplicity in 1..9 {
-        let found = least_limit(n, k, radius, multiplicity);
-        if found.is_some() {
-            return found;
-        }
+impl Wanted {
+    // The setting with the least list limit for this multiplicity.
+    fn least_limit(self, multiplicity: u8) -> Option<Setting>
+        ensures { result ≡ least_limit self.n self.k self.radius multiplicity }
+    {
+        let Wanted { n, k, radius } = self;
+        (1..9)
+            .map(|list_limit| Setting {
+                radius,
+                multiplicity,
+                list_limit,
+            })
+            .find(|setting| setting.is_accepted(n, k))
     }
-    None
+
+    // The setting with the least multiplicity, and for it the least list limit.
+    fn least_setting(self) -> Option<Setting>
+        ensures { result ≡ least_setting self.n self.k self.radius }
+    {
+        (1..9).find_map(|multiplicity| self.least_limit(multiplicity))
+    }
 }
 
 // Proposes a setting for a code of n places with the threshold k and for a radius.
@@ -49,5 +50,7 @@ pub fn propose(n: u8, k: u8, radius: u8) -> Result<Setting, CodeFault>
     if k == 0 || k >= n {
         return Err(CodeFault::Threshold { threshold: k });
     }
-    least_setting(n, k, radius).ok_or(CodeFault::NoSetting)
+    Wanted { n, k, radius }
+        .least_setting()
+        .ok_or(CodeFault::NoSetting)
 }

@@ -1,5 +1,5 @@
 ghost use Rattle.std.specs.Prelude.{◌≡◌, ◌<◌, ◌≤◌, true, Decides};
-ghost use Rattle.codes.specs.Settings.{conditions, workable, reaches, accepts, small, Consequences};
+ghost use Rattle.codes.specs.Settings.{conditions, workable, reaches, accepts, small, work_area, Consequences};
 ghost use Rattle.decoding.specs.Setting.{Accepted};
 
 use crate::Setting;
@@ -50,5 +50,12 @@ impl Setting {
         ensures { result ≡ small n self.multiplicity }
     {
         n <= 16 && self.conditions(n) <= 120
+    }
+
+    // The length of the work area for a listing of a code of n places.
+    pub fn work_area(self, n: u8) -> usize
+        ensures { result ≡ work_area n self }
+    {
+        if self.is_small(n) { 32_000 } else { 400_000 }
     }
 }

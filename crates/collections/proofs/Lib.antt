@@ -1,3 +1,2 @@
 pub mod Booked
 pub mod Fairness
-pub mod Issued

@@ -1,3 +1,4 @@
 pub mod Book
 pub mod Standing
+pub mod Single
 pub mod Issuing

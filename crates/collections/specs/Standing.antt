@@ -8,8 +8,7 @@ use Rattle.codes.specs.Opening.{Given}
 use Rattle.collections.specs.declared.Place.{Place}
 use Rattle.collections.specs.declared.Place.TheVariants.{Empty, Filled}
 use Rattle.collections.specs.declared.Opened.{Opened}
-use Rattle.collections.specs.declared.State.{State}
-use Rattle.collections.specs.declared.State.TheVariants.{Blank as Unopened, Open}
+use Rattle.collections.specs.declared.Page.{Page}
 use Rattle.collections.specs.declared.Kept.{Kept}
 use Rattle.collections.specs.Book.{Book, unopened, opened, places_in, place_check, place_in, Act, Said, done, told, refused, Right, Fair}
 
@@ -23,21 +22,26 @@ given_of o = record {
 }
 
 -- the book: of the 32 places that are kept, the code's count
-abbrev pub page : State → List Place → Book
-page Unopened at = unopened
-page (Open o) at = opened (given_of o) (take o.code.count at)
+abbrev pub page : Option Page → Book
+page None = unopened
+page (Some p) = opened (given_of p.opened) (take p.opened.code.count p.places.at)
 
 abbrev pub standing : Kept → Book
-standing k = page k.state k.places.at
+standing k = page k.page
+
+-- what a collection was opened with
+abbrev pub opened_in : Option Page → Option Opened
+opened_in None = None
+opened_in (Some p) = Some p.opened
 
 -- an open collection is over the field of q elements, a number of 16 bits
-abbrev pub Over : ℕ → State → Type 0
-Over q Unopened = Unit {0}
-Over q (Open o) = (o.code.q ≡ q) × (q < 2 ^ 16)
+abbrev pub Over : ℕ → Option Opened → Type 0
+Over q None = Unit {0}
+Over q (Some o) = (o.code.q ≡ q) × (q < 2 ^ 16)
 
 -- what every collection over a field of q elements keeps from its first call on
 abbrev pub Sound : ℕ → Kept → Type 0
-Sound q k = Over q k.state × Fair q (standing k)
+Sound q k = Over q (opened_in k.page) × Fair q (standing k)
 
 -- the share of a place, if it has one
 abbrev pub share : Place → Option ℕ
@@ -66,12 +70,16 @@ pub record Judged {U : Type 0} (q : ℕ) (before : Kept) (act : Act) (r : Result
   -- the answer is the book's, and the collection afterwards stands for the book afterwards
   pub right : Right q (standing before) act (said r) (standing after)
   pub same : SameIfRefused r before after
-  pub sound : Sound q before → Sound q after
+
+-- the page of an open collection, or the refusal of a blank one
+abbrev pub TellsPage : Kept → Result (Bor Page) CollectionFault → Type 0
+TellsPage k (Ok p) = k.page ≡ Some p.now
+TellsPage k (Err f) = (k.page ≡ None) × (f ≡ Blank)
 
 -- what an open collection was opened with, or the refusal of a blank one
 abbrev pub TellsOpened : Kept → Result (Bor Opened) CollectionFault → Type 0
-TellsOpened k (Ok o) = k.state ≡ Open o.now
-TellsOpened k (Err f) = (k.state ≡ Unopened) × (f ≡ Blank)
+TellsOpened k (Ok o) = opened_in k.page ≡ Some o.now
+TellsOpened k (Err f) = (k.page ≡ None) × (f ≡ Blank)
 
 -- a place by the book: the fault of its check, or what it has
 abbrev pub TellsPlace : Book → ℕ → Result Place CollectionFault → Type 0

@@ -2,18 +2,26 @@ ghost use Rattle.std.specs.Prelude.{◌≡◌};
 ghost use Rattle.codes.specs.Opening.{given, fault_of};
 ghost use Rattle.collections.specs.Book.{Right, unopened, blank_check, opening, entering, withdrawing, reading};
 ghost use Rattle.collections.specs.Standing.{standing, said_place, Sound, Judged, TellsOpened};
+ghost use Rattle.collections.specs.Single.{Sound-prop};
 
-use crate::{Collection, Kept, Opened, Place};
+use crate::{Kept, Opened, Place};
 use codes::Opening;
 use faults::CollectionFault;
 use fields::Field;
 use std::marker::PhantomData;
 
+// A collection of shares over the field F. Its code was checked against this field, and every value is an element of it.
+#[derive(Drop)]
+pub struct Collection<F: Field> {
+    pub(crate) kept: Kept,
+    field: PhantomData<F>,
+    pub ghost sound: { Sound F.Field.numbers.q kept } by { Sound-prop F.Field.numbers.q kept },
+}
+
 impl<F: Field> Collection<F> {
     // A blank collection.
     pub fn new() -> Self
-        ensures book { standing result.kept ≡ unopened }
-        ensures sound { Sound F.Field.numbers.q result.kept }
+        ensures { standing result.kept ≡ unopened }
     {
         Collection {
             kept: Kept::new(),
@@ -25,14 +33,14 @@ impl<F: Field> Collection<F> {
     pub fn open(&mut self, o: Opening<'_>) -> Result<(), CollectionFault>
         ensures { Judged F.Field.numbers.q self.old.kept (opening (given o.entry)) result self.new.kept }
     {
-        self.kept.open(F::count(), o)
+        self.kept.open(F::Q, o)
     }
 
     // Puts a value at a place; an equal value there already is accepted without effect.
     pub fn enter(&mut self, place: usize, value: u16) -> Result<(), CollectionFault>
         ensures { Judged F.Field.numbers.q self.old.kept (entering place value) result self.new.kept }
     {
-        self.kept.enter(F::count(), place, value)
+        self.kept.enter(F::Q, place, value)
     }
 
     // Empties a place.

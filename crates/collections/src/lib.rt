@@ -8,18 +8,17 @@ mod issuing;
 mod keeping;
 pub mod source;
 
+pub use calls::Collection;
 use codes::{Code, Setting};
-use fields::Field;
-use std::marker::PhantomData;
 
-// What one place has.
-#[derive(Clone, Copy)]
+// What one place has. An enum and no Option, since a collection is an array of places by name.
+#[derive(Clone, Copy, PartialEq, Eq, Debug)]
 pub enum Place {
     Empty,
     Filled(u16),
 }
 
-// The places of a collection; those from the code's count on are not used.
+// The places of a collection; those from the code's count on are not used. A fixed array, since there is no heap.
 #[derive(Drop)]
 pub struct Places {
     at: [Place; 32],
@@ -60,22 +59,15 @@ pub struct Opened {
     pub setting: Setting,
 }
 
-#[derive(Clone, Copy)]
-pub enum State {
-    Blank,
-    Open(Opened),
-}
-
-// What a collection keeps, over any field.
+// An open collection: what it was opened with, and what each place has.
 #[derive(Drop)]
-pub struct Kept {
-    state: State,
+pub struct Page {
+    opened: Opened,
     places: Places,
 }
 
-// A collection of shares over the field F.
+// What a collection keeps, over any field, so that its calls and their proofs stand once: nothing while it is blank.
 #[derive(Drop)]
-pub struct Collection<F: Field> {
-    kept: Kept,
-    field: PhantomData<F>,
+pub struct Kept {
+    page: Option<Page>,
 }

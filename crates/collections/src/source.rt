@@ -17,12 +17,12 @@ pub trait Source {
         ensures { result ≡ slice_index_or (told self.now) i None };
 }
 
-impl Place {
-    // The share of the place, if it has one.
-    pub fn share(self) -> Option<u16>
-        ensures { result ≡ share self }
-    {
-        match self {
+// The share of a place, if it has one.
+impl From<Place> for Option<u16> {
+    ghost from_gives = { λ place r. r ≡ share place };
+
+    fn from(place: Place) -> Self {
+        match place {
             Place::Empty => None,
             Place::Filled(value) => Some(value),
         }
@@ -33,9 +33,9 @@ impl Kept {
     fn count(&self) -> usize
         ensures { result ≡ length (shares (standing self.now)) }
     {
-        match self.opened() {
-            Ok(opened) => opened.code.count(),
-            Err(_) => 0,
+        match &self.page {
+            Some(page) => page.opened.code.count(),
+            None => 0,
         }
     }
 
@@ -43,7 +43,7 @@ impl Kept {
         ensures { result ≡ slice_index_or (shares (standing self.now)) i None }
     {
         match self.read(i) {
-            Ok(x) => x.share(),
+            Ok(place) => place.into(),
             Err(_) => None,
         }
     }

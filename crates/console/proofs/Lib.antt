@@ -1,4 +1,2 @@
-mod Writing
-mod Fronts
 mod Overlong
 mod Told

@@ -1,5 +1,5 @@
 -- What two replies, to a loading on a blank collection and to a listing after it, tell by the law on runs.
-use Rattle.std.proofs.Common.{◌≡◌, ℕ, min, List, [], ◌∷◌, map, length, get_or, take, Some, None, Option, sym, refl, ap, ◌∙◌, subst, arith, Bor}
+use Rattle.std.proofs.Common.{◌≡◌, ℕ, min, List, [], ◌∷◌, map, length, get_or, take, Some, None, Option, Result, sym, refl, ap, ◌∙◌, subst, arith, Bor}
 use Rattle.fields.specs.Numbers.{Numbers}
 use Rattle.faults.specs.declared.ListingFault.{ListingFault}
 use Rattle.faults.specs.declared.SheetFault.{SheetFault}
@@ -9,22 +9,23 @@ use Rattle.transfer.specs.Loading.{load_fault, loaded, said_by, left_by}
 use Rattle.listings.specs.Calls.{listing_fault}
 use Rattle.runs.specs.declared.Call.{Call}
 use Rattle.runs.specs.declared.Call.TheVariants.{Load, List as ListAll}
-use Rattle.runs.specs.declared.Answer.{Answer}
+use Rattle.runs.specs.declared.CallFault.{CallFault}
+use Rattle.runs.specs.declared.Outcome.{Outcome}
 use Rattle.runs.specs.Law.{Reply, reply, with_byte, RightList, Answered, Runs, stop, go}
 use Rattle.console.specs.Output.{PrintsListing, PrintsLoading, PrintsSheet}
-use Rattle.console.specs.Replies.{reply_text, replies_text, ToListing}
+use Rattle.console.specs.Replies.{reply_text, answers_text, ToListing}
 
 -- the book between two calls
 pub record Between (F : Numbers) (tag lent : ℕ) (b : Book) (c d : Call) (r s : Reply) (e : Book) : Type 0 where
   pub book : Book
-  pub first : Answered F tag lent b c r book
-  pub second : Answered F tag lent book d s e
+  pub first : Answered F.q F tag lent b c r book
+  pub second : Answered F.q F tag lent book d s e
 
-between : {F : Numbers} {tag lent : ℕ} {b e : Book} {c d : Call} {r s : Reply} → Runs F tag lent b (c ∷ d ∷ []) (r ∷ s ∷ []) e → Between F tag lent b c d r s e
+between : {F : Numbers} {tag lent : ℕ} {b e : Book} {c d : Call} {r s : Reply} → Runs F.q F tag lent b (c ∷ d ∷ []) (r ∷ s ∷ []) e → Between F tag lent b c d r s e
 between (go {m = m} x (go y stop)) = record { book = m; first = x; second = y }
 
 -- the replies in an area of two
-two_replies : (xs : List Answer) (d : Answer) → length xs ≡ 2 → map reply (take 2 xs) ≡ reply (get_or xs 0 d) ∷ reply (get_or xs 1 d) ∷ []
+two_replies : (xs : List (Result Outcome CallFault)) (d : Result Outcome CallFault) → length xs ≡ 2 → map reply (take 2 xs) ≡ reply (get_or xs 0 d) ∷ reply (get_or xs 1 d) ∷ []
 two_replies [] d h = absurd (omega arith)
 two_replies (a ∷ []) d h = absurd (omega arith)
 two_replies (a ∷ b ∷ xs) d h = refl
@@ -40,16 +41,16 @@ module _ (F : Numbers) (b : Book) where
 
 module _ (F : Numbers) (k n w : ℕ) (bs : List ℕ) where
   loads_so : (o : Option SheetFault) (m : Book) (r s : Reply) → r ≡ with_byte (said_by o) → m ≡ left_by o (loaded unopened bs) unopened
-      → RightList F m (listing_fault F.q m (shares m) 8 w) s → PrintsLoading F k n w bs o (replies_text k n r s)
-  loads_so (Some f) m r s e l h = ap (λ x. replies_text k n x s) e
+      → RightList F m (listing_fault F.q m (shares m) 8 w) s → PrintsLoading F k n w bs o (answers_text k n r s)
+  loads_so (Some f) m r s e l h = ap (λ x. answers_text k n x s) e
   loads_so None m r s e l h =
-      subst (λ (x : Reply). PrintsListing F k n (loaded unopened bs) (listing_fault F.q (loaded unopened bs) (shares (loaded unopened bs)) 8 w) (replies_text k n x s)) (sym e)
+      subst (λ (x : Reply). PrintsListing F k n (loaded unopened bs) (listing_fault F.q (loaded unopened bs) (shares (loaded unopened bs)) 8 w) (answers_text k n x s)) (sym e)
       (lists_so F (loaded unopened bs) k n _ s (subst (λ (x : Book). RightList F x (listing_fault F.q x (shares x) 8 w) s) l h))
 
 -- after a run of both calls: what the answers say is what is to be printed
 pub record Told (F : Numbers) (tag k n w : ℕ) (bs : List ℕ) (loading listing : Reply) : Type 0 where
   pub listed : ToListing listing
-  pub prints : PrintsSheet F tag k n w bs (replies_text k n loading listing)
+  pub prints : PrintsSheet F tag k n w bs (answers_text k n loading listing)
 
 told_between : (F : Numbers) (tag lent k n : ℕ) (bytes : Bor (List ℕ)) (e : Book) (r s : Reply)
     → Between F tag lent unopened (Load bytes) (ListAll 8 32000) r s e → Told F tag k n (min 32000 lent) bytes.now r s
@@ -62,13 +63,13 @@ told_between F tag lent k n bytes e r s b =
           b.second.says;
     }
 
-pub told : (F : Numbers) (tag lent k n : ℕ) (bytes : Bor (List ℕ)) (e : Book) (answers : List Answer) (d : Answer) → length answers ≡ 2
-    → Runs F tag lent unopened (Load bytes ∷ ListAll 8 32000 ∷ []) (map reply (take 2 answers)) e
+pub told : (F : Numbers) (tag lent k n : ℕ) (bytes : Bor (List ℕ)) (e : Book) (answers : List (Result Outcome CallFault)) (d : Result Outcome CallFault) → length answers ≡ 2
+    → Runs F.q F tag lent unopened (Load bytes ∷ ListAll 8 32000 ∷ []) (map reply (take 2 answers)) e
     → Told F tag k n (min 32000 lent) bytes.now (reply (get_or answers 0 d)) (reply (get_or answers 1 d))
 told F tag lent k n bytes e answers d h run =
     told_between F tag lent k n bytes e _ _
-    (between (subst (λ (rs : List Reply). Runs F tag lent unopened (Load bytes ∷ ListAll 8 32000 ∷ []) rs e) (two_replies answers d h) run))
+    (between (subst (λ (rs : List Reply). Runs F.q F tag lent unopened (Load bytes ∷ ListAll 8 32000 ∷ []) rs e) (two_replies answers d h) run))
 
-pub printed : {F : Numbers} {tag k n w : ℕ} {bs : List ℕ} {r s : Reply} (text : List ℕ) → text ≡ replies_text k n r s → Told F tag k n w bs r s
+pub printed : {F : Numbers} {tag k n w : ℕ} {bs : List ℕ} {r s : Reply} (text : List ℕ) → text ≡ answers_text k n r s → Told F tag k n w bs r s
     → PrintsSheet F tag k n w bs text
 printed {F} {tag} {k} {n} {w} {bs} text e t = subst (PrintsSheet F tag k n w bs) (sym e) t.prints

@@ -1,29 +1,24 @@
 -- The header of an input: which check refuses it first, 13, 14 or 15, and what is read where none does.
-use Rattle.std.specs.Prelude.{◌≡◌, ℕ, ◌<◌, cond, List, length, take, Some, None, Ok, Err, Option, Result, ◌==◌, nat_lt, slice_index}
+use Rattle.std.specs.Prelude.{◌≡◌, ℕ, ◌<◌, cond, List, length, take, Ok, Err, Option, Result, ◌==◌, nat_lt, slice_index}
 use Rattle.faults.specs.declared.SheetFault.{SheetFault}
-use Rattle.faults.specs.declared.SheetFault.TheVariants.{Version, Length, OtherField}
+use Rattle.faults.specs.declared.SheetFault.TheVariants.{Version, Length}
 use Rattle.codes.specs.First.{or_else, when, unless}
+use Rattle.sheets.specs.declared.FieldName.{FieldName}
 use Rattle.sheets.specs.Sheet.{Sheet, sheet_of, header_fault}
-use Rattle.console.specs.declared.FieldName.{FieldName}
-use Rattle.console.specs.declared.FieldName.TheVariants.{Mod7, Gf16, Gf256, Mod929}
+use Rattle.sheets.specs.Named.{naming}
 use Rattle.console.specs.declared.Header.{Header}
 
 -- more than 2,048 bytes: 13 if the version is not 1, else 14
 abbrev pub overlong_fault : List ℕ → Option SheetFault
 overlong_fault bs = when (nat_lt 2048 (length bs)) (cond (slice_index bs 0 == 1) Length Version)
 
--- the field of a sheet number
-abbrev pub field_numbered : ℕ → Option FieldName
-field_numbered number =
-    cond (number == 1) (Some Mod7) (cond (number == 2) (Some Gf16) (cond (number == 3) (Some Gf256) (cond (number == 4) (Some Mod929) None)))
-
 -- the header over the field that the sheet names, or 15 if it names none
-abbrev pub header_by : Option FieldName → Sheet → Result Header SheetFault
-header_by None s = Err (OtherField s.field)
-header_by (Some field) s = Ok (record { field = field; places = s.count; threshold = s.threshold })
+abbrev pub header_by : Result FieldName SheetFault → Sheet → Result Header SheetFault
+header_by (Err f) s = Err f
+header_by (Ok field) s = Ok (record { field = field; places = s.count; threshold = s.threshold })
 
 abbrev pub header_of : Sheet → Result Header SheetFault
-header_of s = header_by (field_numbered s.field) s
+header_of s = header_by (naming s.field) s
 
 abbrev pub header_in : List ℕ → Result Header SheetFault
 header_in bs = unless (or_else (overlong_fault bs) (header_fault bs)) (header_of (sheet_of bs))

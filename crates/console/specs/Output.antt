@@ -1,7 +1,6 @@
 -- What is printed of an input, by the share book: the refusal of the first check that applies, or all candidates near the shares.
 use Rattle.std.specs.Prelude.{◌≡◌, ℕ, List, Some, None, Ok, Err, Option, Result}
 use Rattle.fields.specs.Numbers.{Numbers}
-use Rattle.fields.specs.Fields.{numbers7, numbers16, numbers256, numbers929}
 use Rattle.faults.specs.declared.ListingFault.{ListingFault}
 use Rattle.faults.specs.declared.SheetFault.{SheetFault}
 use Rattle.faults.specs.Faults.{listing_refusal}
@@ -12,19 +11,14 @@ use Rattle.collections.specs.Standing.{shares}
 use Rattle.transfer.specs.Loading.{load_fault, loaded}
 use Rattle.listings.specs.Calls.{listing_fault}
 use Rattle.runs.specs.Law.{AllNear}
-use Rattle.console.specs.declared.FieldName.{FieldName}
-use Rattle.console.specs.declared.FieldName.TheVariants.{Mod7, Gf16, Gf256, Mod929}
+use Rattle.sheets.specs.declared.FieldName.{FieldName}
+use Rattle.sheets.specs.declared.FieldName.TheVariants.{Mod7, Gf16, Gf256, Mod929}
+use Rattle.sheets.specs.Named.{numbers_named}
 use Rattle.console.specs.declared.Header.{Header}
 use Rattle.console.specs.Headers.{header_in}
 use Rattle.console.specs.Lines.{ended, list_text}
 
--- a field and its sheet number
-abbrev pub numbers_named : FieldName → Numbers
-numbers_named Mod7 = numbers7
-numbers_named Gf16 = numbers16
-numbers_named Gf256 = numbers256
-numbers_named Mod929 = numbers929
-
+-- the sheet number of a field
 abbrev pub tag_named : FieldName → ℕ
 tag_named Mod7 = 1
 tag_named Gf16 = 2

@@ -15,13 +15,12 @@ reply_text k n (lists items) = list_text k n items
 reply_text k n (refuses r None) = ended (refusal_line r)
 reply_text k n (refuses r (Some byte)) = ended (byte_line r byte)
 
--- of the listing, unless the loading was refused
-abbrev pub replies_text : (k n : ℕ) → (loading listing : Reply) → List ℕ
-replies_text k n accepted s = reply_text k n s
-replies_text k n (tells x) s = reply_text k n s
-replies_text k n (lists items) s = reply_text k n s
-replies_text k n (refuses r None) s = reply_text k n s
-replies_text k n (refuses r (Some byte)) s = ended (byte_line r byte)
+-- of the listing, or of the loading where that was refused
+abbrev pub answers_text : (k n : ℕ) → (loading listing : Reply) → List ℕ
+answers_text k n accepted s = reply_text k n s
+answers_text k n (tells x) s = reply_text k n s
+answers_text k n (lists items) s = reply_text k n s
+answers_text k n (refuses r byte) s = reply_text k n (refuses r byte)
 
 -- a listing is answered by a list, or by a refusal without a byte
 abbrev pub ToListing : Reply → Type 0

@@ -9,19 +9,10 @@ mod listing;
 #[cfg(test)]
 mod tests;
 
-use faults::{ListingFault, SheetFault};
 pub use headers::{LONGEST, first_bytes_tell, read_header};
 pub use listing::list_sheet;
-use runs::Found;
-
-// The delivered fields.
-#[derive(Clone, Copy)]
-pub enum FieldName {
-    Mod7,
-    Gf16,
-    Gf256,
-    Mod929,
-}
+use runs::{CallFault, Found};
+pub use sheets::FieldName;
 
 // What is to be known of a sheet before it is loaded.
 #[derive(Clone, Copy)]
@@ -39,10 +30,6 @@ pub struct Listed {
     pub found: Found,
 }
 
-// What came of a sheet.
+// What came of a sheet: what it lists, or what refuses it. A type of its own, so that it can be printed.
 #[derive(Clone, Copy)]
-pub enum Report {
-    Listed(Listed),
-    NotLoaded(SheetFault),
-    NotListed(ListingFault),
-}
+pub struct Report(pub Result<Listed, CallFault>);

@@ -1,57 +1,48 @@
 ghost use Rattle.std.specs.Prelude.{◌≡◌, take, Some};
-ghost use Rattle.console.specs.Lines.{spaced, candidate_line, listed_text, report_text};
+ghost use Rattle.console.specs.Lines.{spaced, line_of, listed_text, report_text};
 
 use crate::{Listed, Report};
-use candidates::Candidate;
+use runs::CallFault;
 use std::fmt;
 use std::fmt::Display;
 
-// The first `count` of these numbers, each after a space.
+// Numbers, each after a space.
 #[derive(Clone, Copy)]
-struct Numbers<'a> {
-    values: &'a [u16],
-    count: usize,
+struct Numbers<'a>(&'a [u16]);
+
+// The line of a candidate.
+#[derive(Clone, Copy)]
+struct Line<'a> {
+    distance: u8,
+    message: Numbers<'a>,
+    word: Numbers<'a>,
 }
 
-// The line of a candidate of a code with this threshold and this many places.
-#[derive(Clone, Copy)]
-struct Line {
-    threshold: usize,
-    places: usize,
-    candidate: Candidate,
-}
-
-// The first n items, or all if there are fewer.
-fn front<T>(xs: &[T], n: usize) -> &[T]
+// The first n numbers, or all if there are fewer.
+fn front(xs: &[u16], n: usize) -> &[u16]
     ensures { result.now ≡ take n xs.now }
 {
-    &xs[0..n.min(xs.len())]
+    &xs[..n.min(xs.len())]
 }
 
 impl fmt::Display for Numbers<'_> {
-    ghost output = { λ x. Some (spaced (take x.count x.values.now)) };
+    ghost output = { λ x. Some (spaced x.0.now) };
 
     fn fmt<W: fmt::Write>(&self, f: &mut fmt::Formatter<W>) -> fmt::Result {
-        for value in front(self.values, self.count) {
+        for value in self.0 {
             write!(f, " {value}")?;
         }
         Ok(())
     }
 }
 
-impl fmt::Display for Line {
-    ghost output = { λ x. Some (candidate_line x.threshold x.places x.candidate) };
+impl fmt::Display for Line<'_> {
+    ghost output = { λ x. Some (line_of x.distance x.message.0.now x.word.0.now) };
 
     fn fmt<W: fmt::Write>(&self, f: &mut fmt::Formatter<W>) -> fmt::Result {
-        let distance = self.candidate.distance;
-        let message = Numbers {
-            values: &self.candidate.message,
-            count: self.threshold,
-        };
-        let word = Numbers {
-            values: &self.candidate.word,
-            count: self.places,
-        };
+        let distance = self.distance;
+        let message = self.message;
+        let word = self.word;
         write!(f, "distance {distance} message{message} word{word}")
     }
 }
@@ -61,14 +52,14 @@ impl fmt::Display for Listed {
     ghost output = { λ x. Some (listed_text x) };
 
     fn fmt<W: fmt::Write>(&self, f: &mut fmt::Formatter<W>) -> fmt::Result {
-        let candidates = front(&self.found.records, self.found.count);
+        let candidates = self.found.candidates();
         let count = candidates.len();
         writeln!(f, "candidates {count}")?;
         for candidate in candidates {
             let line = Line {
-                threshold: self.threshold,
-                places: self.places,
-                candidate: *candidate,
+                distance: candidate.distance,
+                message: Numbers(front(&candidate.message, self.threshold)),
+                word: Numbers(front(&candidate.word, self.places)),
             };
             writeln!(f, "{line}")?;
         }
@@ -77,13 +68,13 @@ impl fmt::Display for Listed {
 }
 
 impl fmt::Display for Report {
-    ghost output = { λ x. Some (report_text x) };
+    ghost output = { λ x. Some (report_text x.0) };
 
     fn fmt<W: fmt::Write>(&self, f: &mut fmt::Formatter<W>) -> fmt::Result {
-        match *self {
-            Report::Listed(listed) => listed.fmt(f),
-            Report::NotLoaded(fault) => writeln!(f, "{fault}"),
-            Report::NotListed(fault) => {
+        match self.0 {
+            Ok(listed) => listed.fmt(f),
+            Err(CallFault::Sheet(fault)) => writeln!(f, "{fault}"),
+            Err(fault) => {
                 let refusal = fault.refusal();
                 writeln!(f, "{refusal}")
             }

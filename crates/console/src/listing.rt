@@ -2,41 +2,37 @@ ghost use Rattle.std.specs.Prelude.{◌≡◌, min, length, IfOk};
 ghost use Rattle.runs.specs.Law.{reply};
 ghost use Rattle.console.specs.Lines.{report_text};
 ghost use Rattle.console.specs.Output.{PrintsSheet, PrintsHeaded, Prints};
-ghost use Rattle.console.specs.Replies.{replies_text, ToListing};
+ghost use Rattle.console.specs.Replies.{answers_text, ToListing};
 
-use crate::{FieldName, Header, Listed, Report, read_header};
-use faults::ListingFault;
+use crate::{Header, Listed, Report, read_header};
 use fields::{Field, Gf16, Gf256, Mod7, Mod929};
 use runs::calls::run_blank;
-use runs::{Answer, Call};
+use runs::{Answer, Call, CallFault, Outcome};
+use sheets::FieldName;
 use std::alloc::{AllocError, Global};
 
 // Numbers of work area: enough for a small setting.
 const WORK: usize = 32_000;
 
-// What came of a sheet, by the answers to its loading and its listing.
-fn report(header: Header, loading: Answer, listing: Answer) -> Report
+// What a sheet lists, or what refuses it, by the answers to its loading and its listing.
+fn listed(header: Header, loading: Answer, listing: Answer) -> Result<Listed, CallFault>
     requires { ToListing (reply listing) }
-    ensures { report_text result ≡ replies_text header.threshold header.places (reply loading) (reply listing) }
+    ensures { report_text result ≡ answers_text header.threshold header.places (reply loading) (reply listing) }
 {
-    if let Answer::NotLoaded(fault) = loading {
-        return Report::NotLoaded(fault);
-    }
-    match listing {
-        Answer::Listed(found) => Report::Listed(Listed {
+    loading?;
+    match listing? {
+        Outcome::Listed(found) => Ok(Listed {
             threshold: header.threshold,
             places: header.places,
             found,
         }),
-        Answer::NotListed(fault) => Report::NotListed(fault),
-        Answer::Refused(fault) => Report::NotListed(ListingFault::Collection(fault)),
-        Answer::Done | Answer::Told(_) | Answer::NotLoaded(_) => unreachable(),
+        Outcome::Done | Outcome::Told(_) => unreachable(),
     }
 }
 
 // Loads a sheet into a blank collection over the field F, and lists its candidates.
-fn list_over<F: Field>(header: Header, bytes: &[u8], work: &mut [u16]) -> Report
-    ensures { PrintsSheet F.Field.numbers F.Field.tag header.threshold header.places (min 32000 (length work.old)) bytes.now (report_text result) }
+fn list_over<F: Field>(header: Header, bytes: &[u8], work: &mut [u16]) -> Result<Listed, CallFault>
+    ensures { PrintsSheet F.Field.numbers F.Field.SHEET_NUMBER header.threshold header.places (min 32000 (length work.old)) bytes.now (report_text result) }
 {
     let calls = [
         Call::Load(bytes),
@@ -45,12 +41,13 @@ fn list_over<F: Field>(header: Header, bytes: &[u8], work: &mut [u16]) -> Report
             numbers: WORK,
         },
     ];
-    let mut answers = [Answer::Done; 2];
+    let mut answers = [Ok(Outcome::Done); 2];
     let _ = run_blank::<F>(&calls, &mut answers, work);
-    report(header, answers[0], answers[1])
+    listed(header, answers[0], answers[1])
 }
 
-fn list_headed(header: Header, bytes: &[u8], work: &mut [u16]) -> Report
+// By a match, since a value picks a type here.
+fn list_headed(header: Header, bytes: &[u8], work: &mut [u16]) -> Result<Listed, CallFault>
     ensures { PrintsHeaded header (min 32000 (length work.old)) bytes.now (report_text result) }
 {
     match header.field {
@@ -63,13 +60,13 @@ fn list_headed(header: Header, bytes: &[u8], work: &mut [u16]) -> Report
 
 // The candidates of a sheet, or what refuses it.
 pub fn list_sheet(heap: Global, bytes: &[u8]) -> Result<Report, AllocError>
-    ensures { IfOk result (λ x. Prints bytes.now (report_text x)) }
+    ensures { IfOk result (λ x. Prints bytes.now (report_text x.0)) }
 {
     match read_header(bytes) {
         Ok(header) => {
             let mut work = vec![in heap; 0; WORK]?;
-            Ok(list_headed(header, bytes, &mut work))
+            Ok(Report(list_headed(header, bytes, &mut work)))
         }
-        Err(fault) => Ok(Report::NotLoaded(fault)),
+        Err(fault) => Ok(Report(Err(CallFault::from(fault)))),
     }
 }

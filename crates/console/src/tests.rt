@@ -13,20 +13,13 @@ fn prints(rt: &impl Abort, heap: Global, sheet: &[u8], text: &str) -> Result<(),
     Ok(())
 }
 
-// The same with two bytes changed.
-fn damaged(
-    rt: &impl Abort,
-    heap: Global,
-    at: usize,
-    byte: u8,
-    also: usize,
-    other: u8,
-    text: &str,
-) -> Result<(), Fail> {
+// The same with some bytes changed.
+fn damaged(rt: &impl Abort, heap: Global, others: &[(usize, u8)], text: &str) -> Result<(), Fail> {
     let mut sheet = *SHEET;
-    if at < 45 && also < 45 {
-        sheet[at] = byte;
-        sheet[also] = other;
+    for (at, byte) in others {
+        if *at < 45 {
+            sheet[*at] = *byte;
+        }
     }
     prints(rt, heap, &sheet, text)
 }
@@ -34,13 +27,9 @@ fn damaged(
 // Seventeen places over GF(256), k = 2, τ = 7, s = 1, ℓ = 1: no small setting.
 fn large() -> [u8; 111] {
     let mut sheet = [0; 111];
-    let header = [1, 0, 108, 3, 17, 2, 7, 1, 1];
-    for i in 0..9 {
-        sheet[i] = header[i];
-    }
-    for p in 0..17u8 {
-        sheet[10 + 6 * usize::from(p)] = p + 1;
-        sheet[12 + 6 * usize::from(p)] = 1;
+    sheet[..9].copy_from_slice(&[1, 0, 108, 3, 17, 2, 7, 1, 1]);
+    for (point, entry) in (1..=17).zip(sheet[9..].chunks_exact_mut(6)) {
+        entry.copy_from_slice(&[0, point, 0, 1, 0, 0]);
     }
     sheet
 }
@@ -57,37 +46,25 @@ fn sheets_are_listed(rt: HostRuntime) -> Result<(), Fail> {
     damaged(
         &rt,
         heap,
-        31,
-        255,
-        32,
-        255,
+        &[(31, 255), (32, 255)],
         "refused 24 place 3 layer listing\n",
     )?;
     damaged(
         &rt,
         heap,
-        32,
-        7,
-        44,
-        7,
+        &[(32, 7), (44, 7)],
         "refused 8 place 3 layer collection byte 31\n",
     )?;
     damaged(
         &rt,
         heap,
-        3,
-        9,
-        5,
-        0,
+        &[(3, 9), (5, 0)],
         "refused 15 place 3 layer sheet byte 3\n",
     )?;
     damaged(
         &rt,
         heap,
-        2,
-        44,
-        3,
-        9,
+        &[(2, 44), (3, 9)],
         "refused 14 place 1 layer sheet byte 1\n",
     )?;
     prints(&rt, heap, &large(), "refused 11 place 0 layer listing\n")

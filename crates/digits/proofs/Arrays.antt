@@ -1,20 +1,18 @@
--- Slices of runs: what is written into the first run, and the runs of a slice whose rest changed.
-use Rattle.std.proofs.Common.{◌≡◌, ℕ, zero, suc, ◌+◌, ◌-◌, ◌*◌, ◌<◌, ◌≤◌, List, [], ◌∷◌, ◌++◌, length, get_or, take, drop, set, sym, refl, ap, ◌∙◌, subst, ap₂, mul-le-mul_right, suc-mul, add-mul, one-mul, zero-mul, arith, length-drop, length-take}
+-- Slices of runs: their elements, and the runs of a slice whose rest changed.
+use Rattle.std.proofs.Common.{◌≡◌, ℕ, zero, suc, ◌+◌, ◌-◌, ◌*◌, ◌<◌, ◌≤◌, List, [], ◌∷◌, ◌++◌, length, get_or, take, drop, sym, refl, ap, ◌∙◌, subst, mul-le-mul_right, suc-mul, add-mul, one-mul, zero-mul, arith, length-drop, length-take}
 use mathlib.Core.Path.{fun_ext}
 use native.Mathlib.Decide.{dec_lt}
 use lib.Seq.{take-nil}
 use borrow.Rule.Slice.PartMut.{put_mid, Post-is}
-use Rattle.std.proofs.lemmas.List.{get_or-take, get_or-drop, ext_get_or, append-nil, drop_all, drop_at, length-take-le, take_all}
+use Rattle.std.proofs.lemmas.List.{get_or-take, get_or-drop, append-nil, drop_all, drop_at, length-take-le, take_all}
 use Rattle.std.proofs.lemmas.Slice.{take-put_mid_below}
 use Rattle.digits.specs.declared.Shape.{Shape}
 use Rattle.digits.proofs.Bounds.{fits_tail}
 use Rattle.algebra.specs.Poly.{conv, const, padd, scale, pzero, cons, mono, Below}
 use Rattle.algebra.specs.PolyRing.{Poly, const_conv, conv_assoc}
 use Rattle.fields.specs.Numbers.{Numbers, AllBelow, Element, elem, ring_of}
-use Rattle.polynomials.specs.Series.{poly, Reads, plus_shifted}
-use Rattle.polynomials.proofs.Writes.{Written, written_is, written_turn_from}
-use Rattle.polynomials.proofs.Readings.{all_at, past, poly_is, poly_at, multiple_zero}
-use Rattle.polynomials.proofs.Shapes.{up, up_at, up_under, up_length, elem_shifted_at}
+use Rattle.polynomials.specs.Series.{poly, plus_shifted}
+use Rattle.polynomials.proofs.Readings.{all_at, past, poly_at}
 use Rattle.digits.specs.Runs.{run, runs, term, Held}
 
 module _ (F : Numbers) where
@@ -31,62 +29,6 @@ module _ (F : Numbers) where
       go (yes l) = subst (λ z. z < F.q) (get_or-take w xs k 0 l) (all_at F (take w xs) a k)
       go (no l) =
           subst (λ z. z < F.q) (get_or-drop w xs (k - w) 0 ∙ ap (λ (j : ℕ). get_or xs j 0) (let z : w + (k - w) ≡ k = omega arith in z)) (all_at F (drop w xs) b (k - w))
-
-  -- what `add_next` writes at a place
-  abbrev pub summed : ℕ → ℕ → ℕ → ℕ → List ℕ → ℕ → ℕ
-  summed w m e t xs j = F.add (get_or xs j 0) (F.mul e (get_or (up t (take m (drop w xs))) j 0))
-
-  module _ (w m e t : ℕ) (xs ys : List ℕ) (he : e < F.q) (all : AllBelow F.q xs) (room : t + m ≤ w) (long : w + m ≤ length xs) where
-    abbrev next : List ℕ
-    next = take m (drop w xs)
-
-    next_length : length next ≡ m
-    next_length = length-take m (drop w xs) ∙ (let d = length-drop w xs in omega arith)
-
-    still : (j : ℕ) → get_or (up t next) j 0 ≡ 0 → get_or xs j 0 ≡ summed w m e t xs j
-    still j z = multiple_zero F (get_or xs j 0) e (get_or (up t next) j 0) (all_at F xs all j) he z
-
-    pub summed_turn : (zs : List ℕ) (i p r : ℕ) → i < m → Written t (t + i) (summed w m e t xs) xs zs → p ≡ F.mul e (get_or zs (w + i) 0) → r ≡ F.add (get_or zs (t + i) 0) p → Written t (t + (i + 1)) (summed w m e t xs) xs (set zs (t + i) r)
-    summed_turn zs i p r hi inv ep er =
-        written_turn_from i inv (let l = inv.long in omega arith)
-        (λ same.
-        er
-        ∙ ap₂ F.add same
-        (ep
-        ∙ ap (F.mul e)
-        (inv.over (w + i) (omega arith) ∙ sym (get_or-drop w xs i 0) ∙ sym (get_or-take m (drop w xs) i 0 hi) ∙ sym (up_at t next i))))
-
-    module _ (done : Written t (t + m) (summed w m e t xs) xs ys) where
-      at : (j : ℕ) → get_or ys j 0 ≡ summed w m e t xs j
-      at =
-          written_is done (λ j u. still j (up_under t next j u))
-          (λ j u. still j (past F (up t next) j (let l = up_length t next in let n = next_length in omega arith)))
-
-      -- the first run
-      first_at : (k : ℕ) → get_or (take w ys) k 0 ≡ F.add (get_or (take w xs) k 0) (F.mul e (get_or (up t next) k 0))
-      first_at k = go (dec_lt k w)
-        where
-          go : Dec (k < w) → get_or (take w ys) k 0 ≡ F.add (get_or (take w xs) k 0) (F.mul e (get_or (up t next) k 0))
-          go (yes l) = get_or-take w ys k 0 l ∙ at k ∙ ap (λ (z : ℕ). F.add z (F.mul e (get_or (up t next) k 0))) (sym (get_or-take w xs k 0 l))
-          go (no l) =
-              past F (take w ys) k (let z = length-take w ys in omega arith)
-              ∙ sym (past F (take w xs) k (let z = length-take w xs in omega arith))
-              ∙ multiple_zero F (get_or (take w xs) k 0) e (get_or (up t next) k 0) (all_at F (take w xs) (all_take w xs all) k) he
-              (past F (up t next) k (let long_up = up_length t next in let n = next_length in omega arith))
-
-      pub first_reads : Reads F (take w ys) (plus_shifted F (poly F (take w xs)) e t (poly F next))
-      first_reads =
-          record {
-            below = all_take w ys (λ k u. subst (λ z. z < F.q) (sym (at k)) (F.laws.add_below (get_or xs k 0) (F.mul e (get_or (up t next) k 0))));
-            is = poly_is F (take w ys) (λ k. F.add (get_or (take w xs) k 0) (F.mul e (get_or (up t next) k 0))) (plus_shifted F (poly F (take w xs)) e t (poly F next)) first_at
-                (elem_shifted_at F (take w xs) next e t (all_take w xs all) (all_take m (drop w xs) (all_drop w xs all)) he);
-          }
-
-      -- the other runs
-      pub rest_same : drop w ys ≡ drop w xs
-      rest_same =
-          ext_get_or 0 (drop w ys) (drop w xs) (length-drop w ys ∙ ap (λ (n : ℕ). n - w) done.long ∙ sym (length-drop w xs))
-          (λ i u. get_or-drop w ys i 0 ∙ done.over (w + i) (omega arith) ∙ sym (get_or-drop w xs i 0))
 
   -- the runs of a slice: the first, and those of the rest
   pub runs_cons : (w : ℕ) (xs : List ℕ) → runs F w xs ≡ cons (poly F (take w xs)) (runs F w (drop w xs))

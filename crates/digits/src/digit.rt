@@ -9,6 +9,7 @@ ghost use Rattle.digits.specs.Digits.{column, Allowed, Decides, Among};
 use super::Shape;
 use fields::Field;
 use polynomials::{clear, size};
+use std::ops::Range;
 
 // Writes the coefficients of x^m in x^(tb) T_b, for each b.
 fn gather<F: Field>(runs: &[u16], shape: Shape, t: usize, m: usize, out: &mut [u16])
@@ -38,6 +39,7 @@ fn digit_polynomial<F: Field>(runs: &[u16], shape: Shape, t: usize, out: &mut [u
     ensures decides { Decides (ring_of F.Field.numbers) shape.degree t (runs_of F.Field.numbers shape.width runs.now) (suc shape.degree) (poly F.Field.numbers out.new) }
 {
     clear::<F>(out);
+    // A power of x, which stands at another place in each run.
     for m in 0..shape.size {
         gather::<F>(runs, shape, t, m, out);
         if size::<F>(out) > 0 {
@@ -61,29 +63,19 @@ pub(crate) fn next_digit<F: Field>(runs: &[u16], shape: Shape, t: usize) -> [u16
     out
 }
 
-// Numbers from `from` up to `to`.
-#[derive(Clone, Copy)]
-pub(crate) struct Span {
-    pub from: u16,
-    pub to: u16,
-}
-
 // Where the roots of p are: nowhere if it is a constant other than 0, at one place if it is linear, and else anywhere.
-pub(crate) fn root_span<F: Field>(p: &[u16]) -> Span
+pub(crate) fn root_range<F: Field>(p: &[u16]) -> Range<u16>
     requires { AllBelow F.Field.numbers.q p.now }
-    ensures { Among F.Field.numbers (length p.now) (poly F.Field.numbers p.now) result.from result.to }
+    ensures { Among F.Field.numbers (length p.now) (poly F.Field.numbers p.now) result.start result.end }
 {
-    let q = F::count();
+    let q = F::Q;
     let n = size::<F>(p);
     if n == 1 {
-        return Span { from: 0, to: 0 };
+        return 0..0;
     }
     if n == 2 {
         let root = F::neg(F::mul(p[0], F::inv(p[1])));
-        return Span {
-            from: root,
-            to: root + 1,
-        };
+        return root..root + 1;
     }
-    Span { from: 0, to: q }
+    0..q
 }

@@ -10,6 +10,7 @@ mod walking;
 pub use walking::{Leaf, walk};
 
 // Runs of `width` numbers, one for each power of y from 0 to `degree`. Run b has at most `size` - b `depth` coefficients.
+// The slice of the runs is not a field, since the passes over it go on with a part of it, which each shape is told of.
 #[derive(Clone, Copy)]
 pub struct Shape {
     pub width: usize,
@@ -26,10 +27,9 @@ impl Shape {
         ensures { result ≡ record { width = self.width; degree = self.degree - 1; size = self.size - self.depth; depth = self.depth } }
     {
         Shape {
-            width: self.width,
             degree: self.degree - 1,
             size: self.size - self.depth,
-            depth: self.depth,
+            ..self
         }
     }
 }

@@ -10,6 +10,7 @@ ghost use Rattle.digits.specs.Runs.{runs as runs_of, term, Held};
 
 use super::Shape;
 use fields::Field;
+use polynomials::add_shifted_multiple;
 
 // Adds e x^t times the first `size` numbers of the second run to the first run.
 fn add_next<F: Field>(runs: &mut [u16], width: usize, size: usize, e: u16, t: usize)
@@ -20,9 +21,8 @@ fn add_next<F: Field>(runs: &mut [u16], width: usize, size: usize, e: u16, t: us
     ensures first { Reads F.Field.numbers (take width runs.new) (plus_shifted F.Field.numbers (poly F.Field.numbers (take width runs.old)) e t (poly F.Field.numbers (take size (drop width runs.old)))) }
     ensures rest { drop width runs.new ≡ drop width runs.old }
 {
-    for i in 0..size {
-        runs[t + i] = F::add(runs[t + i], F::mul(e, runs[width + i]));
-    }
+    let (run, next) = runs.split_at_mut(width);
+    add_shifted_multiple::<F>(run, e, t, &next[..size]);
 }
 
 // One pass T_b += e x^t T_(b+1), from the last run but one to the first.

@@ -5,7 +5,7 @@ ghost use Rattle.digits.specs.Runs.{runs as runs_of, Held};
 ghost use Rattle.digits.specs.Walks.{Taken, Walked, Ends};
 
 use super::Shape;
-use super::digit::{next_digit, root_span};
+use super::digit::{next_digit, root_range};
 use super::shifting::shift;
 use fields::Field;
 use polynomials::evaluate;
@@ -50,10 +50,9 @@ pub fn walk<F: Field, L: Leaf>(
         return;
     }
     let polynomial = next_digit::<F>(runs, shape, t);
-    let span = root_span::<F>(&polynomial);
-    let from = span.from;
-    let to = span.to;
-    for e in from..to {
+    let range = root_range::<F>(&polynomial);
+    // By its ends, so that what holds after a digit can be said of the digit.
+    for e in range.start..range.end {
         if evaluate::<F>(&polynomial, e) == 0 {
             digits[t] = e;
             shift::<F>(runs, shape, e, t);

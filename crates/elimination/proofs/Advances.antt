@@ -1,6 +1,7 @@
 -- The product of a row with x - α, run by run, and a copy or a sum that leaves out zeros.
-use Rattle.std.proofs.Common.{◌≡◌, ℕ, zero, suc, ◌+◌, ◌-◌, ◌*◌, ◌%◌, ◌<◌, ◌≤◌, ◌≢◌, List, length, get_or, sym, refl, ap, ◌∙◌, subst, arith}
+use Rattle.std.proofs.Common.{◌≡◌, ℕ, zero, suc, ◌+◌, ◌-◌, ◌*◌, ◌%◌, ◌<◌, ◌≤◌, ◌≢◌, List, ◌∷◌, length, get_or, sym, refl, ap, ◌∙◌, subst, arith}
 use native.Mathlib.Decide.{ℕ_discrete}
+use native.Mathlib.Nat.{zero-mod}
 use lib.Arith.{digits_mod}
 use Rattle.algebra.specs.Poly.{conv, lin}
 use Rattle.algebra.specs.RingLaws as L
@@ -12,21 +13,6 @@ use Rattle.polynomials.proofs.Readings.{all_at, poly_at, mul_zero}
 use Rattle.functionals.specs.Runs.{family}
 use Rattle.functionals.proofs.Runs.{family_at}
 use Rattle.elimination.specs.Rows.{Advanced}
-
--- a place that already has its value
-pub written_keep : {lo hi : ℕ} {f : ℕ → ℕ} {xs ys : List ℕ} → Written lo hi f xs ys → lo ≤ hi → (get_or ys hi 0 ≡ get_or xs hi 0 → get_or ys hi 0 ≡ f hi)
-    → Written lo (hi + 1) f xs ys
-written_keep {lo} {hi} {f} {xs} {ys} w le e =
-    record {
-      inside = λ k l u. at k l u (ℕ_discrete k hi);
-      under = w.under;
-      over = λ k u. w.over k (omega arith);
-      long = w.long;
-    }
-  where
-    at : (k : ℕ) → lo ≤ k → k < hi + 1 → Dec (k ≡ hi) → get_or ys k 0 ≡ f k
-    at k l u (yes p) = subst (λ (j : ℕ). get_or ys j 0 ≡ f j) (sym p) (e (w.over hi (omega arith)))
-    at k l u (no p) = w.inside k l (omega arith)
 
 -- what stands to the left in the same run
 unfoldable pub left : ℕ → List ℕ → ℕ → ℕ
@@ -47,6 +33,11 @@ left_some B xs i n = go (ℕ_discrete (i % B) 0)
     go : (d : Dec (i % B ≡ 0)) → ◌≡◌ {A = ℕ} (get_or xs (i - 1) 0) (elim d [ yes _ ↦ 0 | no _ ↦ get_or xs (i - 1) 0 ])
     go (yes e) = absurd (n e)
     go (no _) = refl
+
+-- the number before in the list, where there is one in the same run
+pub left_last : (B : ℕ) (xs : List ℕ) (i : ℕ) → i % B ≢ 0 → get_or (0 ∷ xs) i 0 ≡ left B xs i
+left_last B xs zero n = absurd (n (zero-mod B))
+left_last B xs (suc i) n = ap (λ (k : ℕ). get_or xs k 0) (let e : i ≡ suc i - 1 = omega arith in e) ∙ left_some B xs (suc i) n
 
 module _ (F : Numbers) where
   -- low - α 0

@@ -1,4 +1,3 @@
-pub mod Chooses
 pub mod Sweeps
 pub mod Advances
 pub mod Steps

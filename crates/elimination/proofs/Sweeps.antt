@@ -1,14 +1,14 @@
 -- The elimination, row by row.
-use Rattle.std.proofs.Common.{◌≡◌, ℕ, ◌+◌, ◌*◌, ◌<◌, ◌≤◌, ◌≢◌, ◌⊎◌, List, length, get_or, sym, refl, ap, ◌∙◌, subst, ap₂, inl, inr, arith}
+use Rattle.std.proofs.Common.{◌≡◌, ℕ, ◌+◌, ◌*◌, ◌<◌, ◌≤◌, ◌≢◌, ◌⊎◌, List, ◌++◌, ◌-◌, length, get_or, take, drop, min, sym, refl, ap, ◌∙◌, subst, ap₂, inl, inr, arith, length-take, get_or-drop, get_or-take}
+use Rattle.std.proofs.lemmas.List.{get_or-append-add, get_or_append_left}
 use mathlib.Core.Path.{fun_ext}
 use native.Mathlib.Decide.{ℕ_discrete, dec_lt}
 use Rattle.algebra.specs.Poly.{padd, scale}
 use Rattle.algebra.specs.RingLaws as L
 use Rattle.fields.specs.Numbers.{Numbers, AllBelow, Element, elem, pos, plus, times, ring_of, elem_neg, elem_inj}
 use Rattle.polynomials.specs.Series.{poly, Reads, plus_multiple, plus_shifted}
-use Rattle.polynomials.proofs.Writes.{Written}
 use Rattle.polynomials.proofs.Readings.{all_at, past, poly_at, poly_past, mul_zero}
-use Rattle.polynomials.proofs.Shapes.{up, up_length, up_at, up_under, up_below, poly_up}
+use Rattle.polynomials.proofs.Shapes.{up, up_length, up_at, up_under, poly_up}
 use Rattle.functionals.specs.Runs.{run}
 use Rattle.elimination.specs.Rows.{Swept, Stored}
 use Rattle.functionals.proofs.Runs.{run_room, family_at, family_past}
@@ -140,25 +140,54 @@ module _ (F : Numbers) where
         }
 
   -- a copy to the row p
-  pub stored : (rows pivot after : List ℕ) (p n : ℕ) → AllBelow F.q rows → AllBelow F.q pivot → n ≡ length pivot
-      → Written (p * length pivot) (p * length pivot + n) (λ k. get_or (up (p * length pivot) pivot) k 0) rows after → Stored F rows pivot p after
-  stored rows pivot after p n hr hp e w =
+  pub stored : (rows pivot : List ℕ) {after : List ℕ} (p : ℕ) → AllBelow F.q rows → AllBelow F.q pivot → p * length pivot + length pivot ≤ length rows
+      → after ≡ take (p * length pivot) rows ++ (pivot ++ drop (p * length pivot + length pivot) rows) → Stored F rows pivot p after
+  stored rows pivot {after} p hr hp room e =
       record {
-        below = λ k h. below k (dec_lt k (p * length pivot)) (dec_lt k (p * length pivot + n));
+        below = λ k h. below k (dec_lt k (p * length pivot)) (dec_lt k (p * length pivot + length pivot));
         here = fun_ext (λ m. here m (dec_lt m (length pivot)));
         other = λ j ne. fun_ext (λ m. other j ne m (dec_lt m (length pivot)) (dec_lt j p));
       }
     where
-      below : (k : ℕ) → Dec (k < p * length pivot) → Dec (k < p * length pivot + n) → get_or after k 0 < F.q
-      below k (yes l) d = subst (λ (z : ℕ). z < F.q) (sym (w.under k l)) (all_at F rows hr k)
+      front : length (take (p * length pivot) rows) ≡ p * length pivot
+      front = length-take (p * length pivot) rows ∙ (let z : min (p * length pivot) (length rows) ≡ p * length pivot = omega arith in z)
+
+      under : (k : ℕ) → k < p * length pivot → get_or after k 0 ≡ get_or rows k 0
+      under k l =
+          ap (λ (a : List ℕ). get_or a k 0) e
+          ∙ get_or_append_left (take (p * length pivot) rows) (pivot ++ drop (p * length pivot + length pivot) rows) 0 k (omega (arith, front))
+          ∙ get_or-take (p * length pivot) rows k 0 l
+
+      past_front : (m : ℕ) → get_or after (p * length pivot + m) 0 ≡ get_or (pivot ++ drop (p * length pivot + length pivot) rows) m 0
+      past_front m =
+          ap (λ (a : List ℕ). get_or a (p * length pivot + m) 0) e
+          ∙ ap (λ (n : ℕ). get_or (take (p * length pivot) rows ++ (pivot ++ drop (p * length pivot + length pivot) rows)) (n + m) 0) (sym front)
+          ∙ get_or-append-add (take (p * length pivot) rows) (pivot ++ drop (p * length pivot + length pivot) rows) m 0
+
+      inside : (m : ℕ) → m < length pivot → get_or after (p * length pivot + m) 0 ≡ get_or pivot m 0
+      inside m l = past_front m ∙ get_or_append_left pivot (drop (p * length pivot + length pivot) rows) 0 m l
+
+      over : (k : ℕ) → p * length pivot + length pivot ≤ k → get_or after k 0 ≡ get_or rows k 0
+      over k l =
+          let i : ℕ = k - (p * length pivot + length pivot) in
+          let z : k ≡ p * length pivot + (length pivot + i) = omega arith in
+          let y : p * length pivot + length pivot + i ≡ k = omega arith in
+          ap (λ (n : ℕ). get_or after n 0) z ∙ past_front (length pivot + i)
+          ∙ get_or-append-add pivot (drop (p * length pivot + length pivot) rows) i 0
+          ∙ get_or-drop (p * length pivot + length pivot) rows i 0 ∙ ap (λ (n : ℕ). get_or rows n 0) y
+
+      below : (k : ℕ) → Dec (k < p * length pivot) → Dec (k < p * length pivot + length pivot) → get_or after k 0 < F.q
+      below k (yes l) d = subst (λ (z : ℕ). z < F.q) (sym (under k l)) (all_at F rows hr k)
       below k (no l) (yes u) =
-          subst (λ (z : ℕ). z < F.q) (sym (w.inside k (omega arith) u)) (all_at F (up (p * length pivot) pivot) (up_below F (p * length pivot) pivot hp) k)
-      below k (no l) (no u) = subst (λ (z : ℕ). z < F.q) (sym (w.over k (omega arith))) (all_at F rows hr k)
+          let m : ℕ = k - p * length pivot in
+          let z : k ≡ p * length pivot + m = omega arith in
+          subst (λ (z : ℕ). z < F.q) (sym (ap (λ (n : ℕ). get_or after n 0) z ∙ inside m (omega arith))) (all_at F pivot hp m)
+      below k (no l) (no u) = subst (λ (z : ℕ). z < F.q) (sym (over k (omega arith))) (all_at F rows hr k)
 
       here : (m : ℕ) → Dec (m < length pivot) → poly F (run (length pivot) after p) m ≡ poly F pivot m
       here m (yes l) =
           family_at F (length pivot) after p m l ∙ poly_at F after (p * length pivot + m)
-          ∙ ap (elem F) (w.inside (p * length pivot + m) (omega arith) (omega arith) ∙ up_at (p * length pivot) pivot m) ∙ sym (poly_at F pivot m)
+          ∙ ap (elem F) (inside m l) ∙ sym (poly_at F pivot m)
       here m (no l) = family_past F (length pivot) after p m (omega arith) ∙ sym (poly_past F pivot m (omega arith))
 
       same : (j m : ℕ) → m < length pivot → get_or after (j * length pivot + m) 0 ≡ get_or rows (j * length pivot + m) 0
@@ -170,8 +199,8 @@ module _ (F : Numbers) where
       other : (j : ℕ) → j ≢ p → (m : ℕ) → Dec (m < length pivot) → Dec (j < p) → poly F (run (length pivot) after j) m ≡ poly F (run (length pivot) rows j) m
       other j ne m (yes l) (yes k) =
           let u : j * length pivot + length pivot ≤ p * length pivot = run_room j p (length pivot) (p * length pivot) k (omega arith) in
-          same j m l (w.under (j * length pivot + m) (omega arith))
+          same j m l (under (j * length pivot + m) (omega arith))
       other j ne m (yes l) (no k) =
           let u : p * length pivot + length pivot ≤ j * length pivot = run_room p j (length pivot) (j * length pivot) (omega arith) (omega arith) in
-          same j m l (w.over (j * length pivot + m) (omega arith))
+          same j m l (over (j * length pivot + m) (omega arith))
       other j ne m (no l) d = family_past F (length pivot) after j m (omega arith) ∙ sym (family_past F (length pivot) rows j m (omega arith))

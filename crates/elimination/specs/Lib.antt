@@ -1,3 +1,4 @@
 pub mod Choice
 pub mod Rows
 pub mod Stepping
+pub mod Tableaus

@@ -4,14 +4,17 @@
 
 ghost use Rattle.std.specs.Prelude.{◌≡◌, ℕ, ◌+◌, ◌-◌, ◌*◌, ◌<◌, ◌≤◌, length, IfSome, MatchOption, slice_index};
 ghost use Rattle.fields.specs.Numbers.{AllBelow};
-ghost use Rattle.polynomials.specs.Series.{poly, Reads, plus_shifted};
+ghost use Rattle.polynomials.specs.Series.{poly, Reads};
 ghost use Rattle.functionals.specs.Runs.{run};
 ghost use Rattle.elimination.specs.Choice.{Chosen, Better};
 ghost use Rattle.elimination.specs.Rows.{Measured, Swept, Advanced, Stored, Pivoted};
 ghost use Rattle.elimination.specs.Stepping.{Stepped};
+ghost use Rattle.elimination.specs.Tableaus.{Fits, SameAreas};
 
+use areas::put;
 use fields::Field;
 use functionals::discrepancy;
+use polynomials::add_shifted_multiple;
 
 // The values of the rows, which are runs of the given size. A dead row has none, and is given 0.
 fn measure<F: Field>(
@@ -30,10 +33,11 @@ fn measure<F: Field>(
     requires fit { length cs.now * length xs.now ≤ size }
     ensures { Measured F.Field.numbers size rows.now ranks.now xs.now cs.now values.new }
 {
+    // The rows are cut off one by one, since their size may be 0; by index in ranks, since what a zip over `iter_mut` leaves in its slice is not known to a proof.
     let mut rest = rows;
-    for j in 0..values.len() {
+    for (j, value) in values.iter_mut().enumerate() {
         let (row, tail) = rest.split_at(size);
-        values[j] = if ranks[j] < xs.len() {
+        *value = if ranks[j] < xs.len() {
             discrepancy::<F>(row, xs, cs)
         } else {
             0
@@ -59,9 +63,10 @@ fn choose(ranks: &[usize], values: &[u16], bound: usize) -> Option<usize>
     requires { length ranks.now ≤ length values.now }
     ensures { Chosen ranks.now values.now bound (length ranks.now) result }
 {
+    // A loop: of a chain by `filter` and `min_by_key` it could not be proved that it picks the first of the least rank.
     let mut best = None;
-    for j in 0..ranks.len() {
-        if ranks[j] < bound && values[j] != 0 {
+    for (j, rank) in ranks.iter().enumerate() {
+        if *rank < bound && values[j] != 0 {
             best = Some(prefer(ranks, best, j));
         }
     }
@@ -75,24 +80,7 @@ pub fn fetch<F: Field>(pivot: &mut [u16], rows: &[u16], p: usize)
     ensures { Reads F.Field.numbers pivot.new (poly F.Field.numbers (run (length pivot.old) rows.now p)) }
 {
     let at = p * pivot.len();
-    for i in 0..pivot.len() {
-        pivot[i] = rows[at + i];
-    }
-}
-
-// Adds c times the pivot to the rows from the place k on. Most of its numbers are 0, and cost no product.
-fn add_pivot<F: Field>(rows: &mut [u16], c: u16, k: usize, pivot: &[u16])
-    requires factor { c < F.Field.numbers.q }
-    requires first { AllBelow F.Field.numbers.q rows.old }
-    requires second { AllBelow F.Field.numbers.q pivot.now }
-    requires room { k + length pivot.now ≤ length rows.old }
-    ensures { Reads F.Field.numbers rows.new (plus_shifted F.Field.numbers (poly F.Field.numbers rows.old) c k (poly F.Field.numbers pivot.now)) }
-{
-    for i in 0..pivot.len() {
-        if pivot[i] != 0 {
-            rows[k + i] = F::add(rows[k + i], F::mul(c, pivot[i]));
-        }
-    }
+    pivot.copy_from_slice(&rows[at..at + pivot.len()]);
 }
 
 // Takes from each row but p the multiple of the pivot by the ratio of the values.
@@ -104,13 +92,12 @@ fn sweep<F: Field>(rows: &mut [u16], pivot: &[u16], values: &[u16], p: usize)
     ensures { Swept F.Field.numbers (length pivot.now) rows.old pivot.now values.now p rows.new }
 {
     let inverse = F::inv(values[p]);
-    let mut at = 0;
-    for j in 0..values.len() {
-        if j != p && values[j] != 0 {
-            let ratio = F::mul(values[j], inverse);
-            add_pivot::<F>(rows, F::neg(ratio), at, pivot);
+    // The rows by their offsets: what `chunks_exact_mut` leaves in its slice is not known to a proof.
+    for (j, value) in values.iter().enumerate() {
+        if j != p && *value != 0 {
+            let ratio = F::mul(*value, inverse);
+            add_shifted_multiple::<F>(rows, F::neg(ratio), j * pivot.len(), pivot);
         }
-        at += pivot.len();
     }
 }
 
@@ -133,9 +120,11 @@ fn advance<F: Field>(row: &mut [u16], alpha: u16, bound: usize)
     requires some { 0 < bound }
     ensures { Advanced F.Field.numbers bound alpha row.old row.new }
 {
-    for i in (0..row.len()).rev() {
-        let low = if i % bound == 0 { 0 } else { row[i - 1] };
-        row[i] = linear::<F>(low, alpha, row[i]);
+    let mut last = 0;
+    for (i, x) in row.iter_mut().enumerate() {
+        let low = if i % bound == 0 { 0 } else { last };
+        last = *x;
+        *x = linear::<F>(low, alpha, last);
     }
 }
 
@@ -146,65 +135,61 @@ fn store<F: Field>(rows: &mut [u16], pivot: &[u16], p: usize)
     requires room { p * length pivot.now + length pivot.now ≤ length rows.old }
     ensures { Stored F.Field.numbers rows.old pivot.now p rows.new }
 {
-    let at = p * pivot.len();
-    for i in 0..pivot.len() {
-        rows[at + i] = pivot[i];
-    }
+    put(rows, p * pivot.len(), pivot);
 }
 
-// Eliminates with the row p: the others lose their multiple of it, and it goes on to (x - alpha) row unless it dies by that.
-fn pivot_on<F: Field>(
-    rows: &mut [u16],
-    ranks: &mut [usize],
-    values: &[u16],
-    pivot: &mut [u16],
-    p: usize,
-    alpha: u16,
-    bound: usize,
-)
-    requires point { alpha < F.Field.numbers.q }
-    requires first { AllBelow F.Field.numbers.q rows.old }
-    requires second { AllBelow F.Field.numbers.q values.now }
-    requires ranked { p < length ranks.old }
-    requires inside { p < length values.now }
-    requires live { slice_index ranks.old p < bound }
-    requires room { length values.now * length pivot.old ≤ length rows.old }
-    ensures { Pivoted F.Field.numbers (length pivot.old) bound alpha rows.old ranks.old values.now p rows.new ranks.new }
-{
-    fetch::<F>(pivot, rows, p);
-    sweep::<F>(rows, pivot, values, p);
-    ranks[p] += 1;
-    if ranks[p] < bound {
-        advance::<F>(pivot, alpha, bound);
-        store::<F>(rows, pivot, p);
-    }
+// The rows of the iteration and their ranks, with room to work in: for the value of each row, and for a copy of one.
+#[derive(Drop)]
+pub struct Tableau<'a> {
+    pub rows: &'a mut [u16],
+    pub ranks: &'a mut [usize],
+    pub values: &'a mut [u16],
+    pub pivot: &'a mut [u16],
 }
 
-// A step of the iteration at the place alpha, for the constraint whose Taylor row is xs and whose weights are cs. There are as many rows as weights,
-// each with as many runs of as many numbers as xs has. The pivot and the values are room to work in.
-pub fn step<F: Field>(
-    rows: &mut [u16],
-    ranks: &mut [usize],
-    values: &mut [u16],
-    pivot: &mut [u16],
-    alpha: u16,
-    xs: &[u16],
-    cs: &[u16],
-)
-    requires point { alpha < F.Field.numbers.q }
-    requires first { AllBelow F.Field.numbers.q rows.old }
-    requires second { AllBelow F.Field.numbers.q xs.now }
-    requires third { AllBelow F.Field.numbers.q cs.now }
-    requires ranked { length ranks.old ≡ length cs.now }
-    requires valued { length values.old ≡ length cs.now }
-    requires size { length pivot.old ≡ length cs.now * length xs.now }
-    requires room { length cs.now * length pivot.old ≤ length rows.old }
-    ensures below { AllBelow F.Field.numbers.q rows.new }
-    ensures stepped { Stepped F.Field.numbers alpha xs.now cs.now rows.old ranks.old rows.new ranks.new }
-{
-    measure::<F>(values, rows, pivot.len(), ranks, xs, cs);
-    match choose(ranks, values, xs.len()) {
-        Some(p) => pivot_on::<F>(rows, ranks, values, pivot, p, alpha, xs.len()),
-        None => {}
+impl Tableau<'_> {
+    // Eliminates with the row p: the others lose their multiple of it, and it goes on to (x - alpha) row unless it dies by that.
+    fn pivot_on<F: Field>(&mut self, p: usize, alpha: u16, bound: usize)
+        requires point { alpha < F.Field.numbers.q }
+        requires fits { Fits F.Field.numbers.q (length self.old.values.now) bound self.old }
+        requires values { AllBelow F.Field.numbers.q self.old.values.now }
+        requires inside { p < length self.old.values.now }
+        requires live { slice_index self.old.ranks.now p < bound }
+        ensures fits { Fits F.Field.numbers.q (length self.old.values.now) bound self.new }
+        ensures areas { SameAreas self.old self.new }
+        ensures pivoted { Pivoted F.Field.numbers (length self.old.pivot.now) bound alpha self.old.rows.now self.old.ranks.now self.old.values.now p self.new.rows.now self.new.ranks.now }
+    {
+        let rows = &mut *self.rows;
+        let ranks = &mut *self.ranks;
+        let values = &mut *self.values;
+        let pivot = &mut *self.pivot;
+        fetch::<F>(pivot, rows, p);
+        sweep::<F>(rows, pivot, values, p);
+        ranks[p] += 1;
+        if ranks[p] < bound {
+            advance::<F>(pivot, alpha, bound);
+            store::<F>(rows, pivot, p);
+        }
+    }
+
+    // A step of the iteration at the place alpha, for the constraint whose Taylor row is xs and whose weights are cs. There are as many rows as weights,
+    // each with as many runs of as many numbers as xs has.
+    pub fn step<F: Field>(&mut self, alpha: u16, xs: &[u16], cs: &[u16])
+        requires point { alpha < F.Field.numbers.q }
+        requires orders { AllBelow F.Field.numbers.q xs.now }
+        requires weights { AllBelow F.Field.numbers.q cs.now }
+        requires fits { Fits F.Field.numbers.q (length cs.now) (length xs.now) self.old }
+        ensures fits { Fits F.Field.numbers.q (length cs.now) (length xs.now) self.new }
+        ensures areas { SameAreas self.old self.new }
+        ensures stepped { Stepped F.Field.numbers alpha xs.now cs.now self.old.rows.now self.old.ranks.now self.new.rows.now self.new.ranks.now }
+    {
+        let size = self.pivot.len();
+        let rows = &mut *self.rows;
+        let ranks = &mut *self.ranks;
+        let values = &mut *self.values;
+        measure::<F>(values, rows, size, ranks, xs, cs);
+        if let Some(p) = choose(ranks, values, xs.len()) {
+            self.pivot_on::<F>(p, alpha, xs.len());
+        }
     }
 }

@@ -9,7 +9,7 @@ mod refusals;
 mod shown;
 
 // Which part of the engine refuses.
-#[derive(Clone, Copy)]
+#[derive(Clone, Copy, PartialEq, Eq, Debug)]
 pub enum Layer {
     Code,
     Collection,
@@ -17,8 +17,8 @@ pub enum Layer {
     Sheet,
 }
 
-// What a refusal says to its reader.
-#[derive(Clone, Copy)]
+// What a refusal says to its reader. The number is part of the format that readers of answers and lines go by.
+#[derive(Clone, Copy, PartialEq, Eq, Debug)]
 pub struct Refusal {
     pub number: u8,
     pub place: usize,
@@ -26,7 +26,7 @@ pub struct Refusal {
 }
 
 // What is wrong with a code or a setting.
-#[derive(Clone, Copy)]
+#[derive(Clone, Copy, PartialEq, Eq, Debug)]
 pub enum CodeFault {
     PlaceCount {
         points: usize,
@@ -53,7 +53,7 @@ pub enum CodeFault {
 }
 
 // What is wrong with a call of a collection.
-#[derive(Clone, Copy)]
+#[derive(Clone, Copy, PartialEq, Eq, Debug)]
 pub enum CollectionFault {
     Blank,
     AlreadyOpen,
@@ -65,7 +65,7 @@ pub enum CollectionFault {
 }
 
 // What is wrong with a listing or with one of its stages.
-#[derive(Clone, Copy)]
+#[derive(Clone, Copy, PartialEq, Eq, Debug)]
 pub enum ListingFault {
     Collection(CollectionFault),
     SourceCount { count: usize },
@@ -80,7 +80,7 @@ pub enum ListingFault {
 }
 
 // What is wrong with a sheet, or with loading it.
-#[derive(Clone, Copy)]
+#[derive(Clone, Copy, PartialEq, Eq, Debug)]
 pub enum SheetFault {
     Version,
     Length,
@@ -88,6 +88,7 @@ pub enum SheetFault {
     Collection(CollectionFault),
 }
 
+// The conversions are by hand: what a derive writes has no contract, and the contracts of the callers name the fault that `?` makes.
 impl From<CodeFault> for CollectionFault {
     ghost from_gives = { λ e r. r ≡ the_code e };
 

@@ -3,6 +3,7 @@ ghost use Rattle.faults.specs.Faults.{code_refusal, collection_refusal, listing_
 
 use crate::{CodeFault, CollectionFault, Layer, ListingFault, Refusal, SheetFault};
 
+// A match for each enum, since the numbers are the format's and follow no rule.
 fn refused(number: u8, place: usize, layer: Layer) -> Refusal
     ensures { result ≡ refusal number place layer }
 {

@@ -4,6 +4,7 @@ ghost use Rattle.faults.specs.Lines.{layer_name, refusal_line, sheet_line};
 use crate::{Layer, Refusal, SheetFault};
 use std::fmt;
 
+// By hand: of a derive's text no contract can say which bytes it is.
 impl fmt::Display for Layer {
     ghost output = { λ l. Some (layer_name l) };
 

@@ -1,1 +1,2 @@
 pub mod Squaring
+pub mod LookUps

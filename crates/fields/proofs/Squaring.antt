@@ -1,24 +1,13 @@
 -- Powers modulo q by squaring: what one turn of the loop keeps.
--- In order: powers of a remainder, powers of a square, a turn without and with a factor, and the end.
-use mathlib.Core.Path.{◌≡◌, sym, ◌∙◌, ap, ap₂}
-use Prim.Native.Nat.{ℕ, zero, suc, ◌*◌, ◌/◌, ◌%◌, ◌^◌, ◌<◌}
-use native.Mathlib.Omega.{arith}
-use native.Mathlib.Nat.{mul_assoc, mul-one, mod-lt, mod-eq_of_lt, pow-suc, pow-zero}
+-- In order: powers of a square, a turn without and with a factor.
+use Rattle.std.specs.Prelude.{◌≡◌, ℕ, suc, ◌+◌, ◌*◌, ◌/◌, ◌%◌, ◌^◌, ◌<◌}
+use Rattle.std.proofs.Common.{sym, ◌∙◌, ap, ap₂, arith, mod-lt}
+use Rattle.std.proofs.lemmas.Nat.{pow-mod, pow-add, mul-pow}
+use Rattle.std.proofs.Math.Nat.{pow-suc}
 use Rattle.algebra.specs.Residue.{mod_mul_mod, mul_mod_mod}
 
-pow_mod : (q x n : ℕ) → (x % q) ^ n % q ≡ x ^ n % q
-pow_mod q x zero = ap (λ (z : ℕ). z % q) (pow-zero (x % q) ∙ sym (pow-zero x))
-pow_mod q x (suc n) =
-    ap (λ (z : ℕ). z % q) (pow-suc (x % q) n) ∙ mul_mod_mod ((x % q) ^ n) x q
-    ∙ sym (mod_mul_mod ((x % q) ^ n) q x) ∙ ap (λ (z : ℕ). z * x % q) (pow_mod q x n) ∙ mod_mul_mod (x ^ n) q x
-    ∙ ap (λ (z : ℕ). z % q) (sym (pow-suc x n))
-
 pow_square : (x n : ℕ) → (x * x) ^ n ≡ x ^ (n * 2)
-pow_square x zero = pow-zero (x * x) ∙ sym (pow-zero x)
-pow_square x (suc n) =
-    pow-suc (x * x) n ∙ ap (λ (z : ℕ). z * (x * x)) (pow_square x n) ∙ sym (mul_assoc (x ^ (n * 2)) x x)
-    ∙ ap (λ (z : ℕ). z * x) (sym (pow-suc x (n * 2))) ∙ sym (pow-suc x (suc (n * 2)))
-    ∙ ap (λ (z : ℕ). x ^ z) (let e : suc (suc (n * 2)) ≡ suc n * 2 = omega arith in e)
+pow_square x n = mul-pow x x n ∙ sym (pow-add x n n) ∙ ap (λ (z : ℕ). x ^ z) (let e : n + n ≡ n * 2 = omega arith in e)
 
 -- a turn leaves r·x^n as it is modulo q, with s for r, y for x and half of n
 abbrev pub Kept : ℕ → ℕ → ℕ → ℕ → ℕ → ℕ → Type 0
@@ -27,7 +16,7 @@ Kept q r x n s y = (s < q) × (s * y ^ (n / 2) % q ≡ r * x ^ n % q)
 -- s·(x²)^m modulo q, where x² is a remainder
 square_mod : (q s x m : ℕ) → s * (x * x % q) ^ m % q ≡ s * x ^ (m * 2) % q
 square_mod q s x m =
-    sym (mul_mod_mod s ((x * x % q) ^ m) q) ∙ ap (λ (z : ℕ). s * z % q) (pow_mod q (x * x) m) ∙ mul_mod_mod s ((x * x) ^ m) q
+    sym (mul_mod_mod s ((x * x % q) ^ m) q) ∙ ap (λ (z : ℕ). s * z % q) (pow-mod (x * x) m q) ∙ mul_mod_mod s ((x * x) ^ m) q
     ∙ ap (λ (z : ℕ). s * z % q) (pow_square x m)
 
 pub even_turn : (q r x n s y : ℕ) → n % 2 ≡ 0 → r < q → s ≡ r → y ≡ x * x % q → Kept q r x n s y
@@ -46,7 +35,3 @@ odd_turn q r x n s y h pos es ey =
           ∙ ap (λ (z : ℕ). z % q) (let z : r * x * p ≡ r * (p * x) = omega arith in z)
           ∙ ap (λ (z : ℕ). r * z % q) (sym (pow-suc x (m * 2)) ∙ ap (λ (z : ℕ). x ^ z) (let e : suc (m * 2) ≡ n = omega arith in e)),
     )
-
-pub ends : (q r x n : ℕ) → n ≡ 0 → r < q → r ≡ r * x ^ n % q
-ends q r x n e h =
-    sym (ap (λ (z : ℕ). r * z % q) (ap (λ (z : ℕ). x ^ z) e ∙ pow-zero x) ∙ ap (λ (z : ℕ). z % q) (mul-one r) ∙ mod-eq_of_lt h)

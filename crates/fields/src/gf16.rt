@@ -1,10 +1,11 @@
 // The binary field of 16 elements: a sum is an exclusive or, a product is that of binary polynomials reduced by x^4 + x + 1
 // (0x13).
-ghost use Rattle.fields.specs.Fields.{numbers16};
+ghost use Rattle.std.specs.Prelude.{refl};
+ghost use Rattle.fields.specs.Fields.{primitive16};
 
-use crate::{Field, tables};
+use crate::{Binary, Tabled, Tables};
 
-pub struct Gf16;
+pub struct Sixteen;
 
 // The powers of 2, from 1 on.
 const POWERS: [u16; 15] = [1, 2, 4, 8, 3, 6, 12, 11, 5, 10, 7, 14, 15, 13, 9];
@@ -12,36 +13,30 @@ const POWERS: [u16; 15] = [1, 2, 4, 8, 3, 6, 12, 11, 5, 10, 7, 14, 15, 13, 9];
 // The place of each element among the powers of 2; there is none for 0.
 const PLACES: [u16; 16] = [0, 0, 1, 4, 2, 8, 5, 10, 3, 14, 9, 7, 6, 13, 11, 12];
 
-impl Field for Gf16 {
+impl Tabled for Sixteen {
     const Q: u16 = 16;
 
     const SHEET_NUMBER: u8 = 2;
 
-    ghost numbers = { numbers16 };
+    ghost Q = { 16 };
 
-    ghost tag = { 2 };
+    ghost SHEET_NUMBER = { 2 };
 
-    fn count() -> u16 {
-        Self::Q
-    }
+    ghost highest = { 3 };
 
-    fn sheet() -> u8 {
-        Self::SHEET_NUMBER
-    }
+    ghost polynomial = { 0x13 };
 
-    fn add(a: u16, b: u16) -> u16 {
-        tables::add(Self::Q, a, b)
-    }
+    ghost primitive = { primitive16 };
 
-    fn neg(a: u16) -> u16 {
-        tables::neg(Self::Q, a)
-    }
+    ghost size = { refl };
 
-    fn mul(a: u16, b: u16) -> u16 {
-        tables::mul(&POWERS, &PLACES, a, b)
-    }
-
-    fn inv(a: u16) -> u16 {
-        tables::inv(&POWERS, &PLACES, a)
+    // Written out in each field, since the tables are arrays of the field's own lengths.
+    fn tables() -> Tables {
+        Tables {
+            powers: &POWERS,
+            places: &PLACES,
+        }
     }
 }
+
+pub type Gf16 = Binary<Sixteen>;

@@ -1,10 +1,11 @@
 // The binary field of 256 elements: a sum is an exclusive or, a product is that of binary polynomials reduced by x^8 + x^4 + x^3 + x^2 + 1
 // (0x11D).
-ghost use Rattle.fields.specs.Fields.{numbers256};
+ghost use Rattle.std.specs.Prelude.{refl};
+ghost use Rattle.fields.specs.Fields.{primitive256};
 
-use crate::{Field, tables};
+use crate::{Binary, Tabled, Tables};
 
-pub struct Gf256;
+pub struct TwoHundredFiftySix;
 
 // The powers of 2, from 1 on.
 const POWERS: [u16; 255] = [
@@ -40,36 +41,30 @@ const PLACES: [u16; 256] = [
     214, 244, 234, 168, 80, 88, 175,
 ];
 
-impl Field for Gf256 {
+impl Tabled for TwoHundredFiftySix {
     const Q: u16 = 256;
 
     const SHEET_NUMBER: u8 = 3;
 
-    ghost numbers = { numbers256 };
+    ghost Q = { 256 };
 
-    ghost tag = { 3 };
+    ghost SHEET_NUMBER = { 3 };
 
-    fn count() -> u16 {
-        Self::Q
-    }
+    ghost highest = { 7 };
 
-    fn sheet() -> u8 {
-        Self::SHEET_NUMBER
-    }
+    ghost polynomial = { 0x11D };
 
-    fn add(a: u16, b: u16) -> u16 {
-        tables::add(Self::Q, a, b)
-    }
+    ghost primitive = { primitive256 };
 
-    fn neg(a: u16) -> u16 {
-        tables::neg(Self::Q, a)
-    }
+    ghost size = { refl };
 
-    fn mul(a: u16, b: u16) -> u16 {
-        tables::mul(&POWERS, &PLACES, a, b)
-    }
-
-    fn inv(a: u16) -> u16 {
-        tables::inv(&POWERS, &PLACES, a)
+    // Written out in each field, since the tables are arrays of the field's own lengths.
+    fn tables() -> Tables {
+        Tables {
+            powers: &POWERS,
+            places: &PLACES,
+        }
     }
 }
+
+pub type Gf256 = Binary<TwoHundredFiftySix>;

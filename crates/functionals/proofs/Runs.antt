@@ -1,6 +1,7 @@
 -- Lists as runs of one length, loops over them, and sums over them.
-use Rattle.std.proofs.Common.{◌≡◌, ℕ, suc, ◌+◌, ◌-◌, ◌*◌, ◌<◌, ◌≤◌, List, length, get_or, take, drop, set, sym, refl, ap, ◌∙◌, subst, ap₂, mul-le-mul_right, add-one, arith, length-drop, length-take, get_or-drop, get_or-set_other, get_or-take, get_or-set_same, drop-drop}
-use native.Mathlib.Decide.{ℕ_discrete}
+use Rattle.std.proofs.Common.{◌≡◌, ℕ, suc, ◌+◌, ◌-◌, ◌*◌, ◌<◌, ◌≤◌, List, [], ◌∷◌, ◌++◌, length, get_or, take, drop, set, sym, refl, ap, ◌∙◌, subst, ap₂, mul-le-mul_right, add-one, arith, length-append, length-drop, length-take, get_or-drop, get_or-set_other, get_or-take, get_or-set_same, drop-drop}
+use native.Mathlib.Decide.{ℕ_discrete, dec_lt}
+use Rattle.std.proofs.Math.Seq.{take-append_seam, drop-append_seam}
 use Rattle.algebra.specs.Sums.{sum}
 use Rattle.algebra.specs.RingLaws as L
 use Rattle.algebra.proofs.Sums.{sum_cong}
@@ -33,6 +34,46 @@ rest_room B t n xs rest e h k =
 pub rest_run : (B t : ℕ) (xs rest front : List ℕ) → rest ≡ drop (t * B) xs → front ≡ take B rest → front ≡ run B xs t
 unfolding run
 rest_run B t xs rest front e f = f ∙ ap (take B) e
+
+-- a loop over an iterator that has given n numbers of a list, and what is left to it: a number more, and none more
+pub given_more : (n : ℕ) (xs : List ℕ) {rest tail : List ℕ} {y : ℕ} → rest ≡ drop n xs → rest ≡ y ∷ tail
+    → (n < length xs) × (get_or xs n 0 ≡ y) × (tail ≡ drop (n + 1) xs)
+given_more n xs {rest} {tail} {y} d e =
+    let u : length rest ≡ length xs - n = ap length d ∙ length-drop n xs in
+    let v : length rest ≡ suc (length tail) = ap length e in (
+      omega arith,
+      ap (λ (k : ℕ). get_or xs k 0) (let z : n ≡ n + 0 = omega arith in z) ∙ sym (get_or-drop n xs 0 0) ∙ ap (λ (l : List ℕ). get_or l 0 0) (sym d ∙ e),
+      sym (ap (drop 1) (sym d ∙ e)) ∙ drop-drop 1 n xs,
+    )
+
+pub given_all : (n : ℕ) (xs : List ℕ) {rest : List ℕ} → rest ≡ drop n xs → length rest ≡ 0 → length xs ≤ n
+given_all n xs {rest} d e = let u : length rest ≡ length xs - n = ap length d ∙ length-drop n xs in omega arith
+
+pub length_push : {A : Type 0} (xs : List A) (x : A) → length (xs ++ (x ∷ [])) ≡ length xs + 1
+length_push xs x = length-append xs (x ∷ [])
+
+-- a loop over the runs of a list of which a are done: a run more, and none more though n were left to do
+pub chunk_more : (B a : ℕ) (xs : List ℕ) {rest front tail : List ℕ} → 0 < B → rest ≡ drop (a * B) xs → rest ≡ front ++ tail → length front ≡ B
+    → (front ≡ run B xs a) × (tail ≡ drop ((a + 1) * B) xs) × (a * B + B ≤ length xs)
+chunk_more B a xs {rest} {front} {tail} some d e l =
+    let u : length rest ≡ length xs - a * B = ap length d ∙ length-drop (a * B) xs in
+    let v : length rest ≡ length front + length tail = ap length e ∙ length-append front tail in (
+      rest_run B a xs rest front d (sym (ap (take B) e ∙ ap (λ (n : ℕ). take n (front ++ tail)) (sym l) ∙ take-append_seam front tail)),
+      rest_more B a xs rest tail d (sym (ap (drop B) e ∙ ap (λ (n : ℕ). drop n (front ++ tail)) (sym l) ∙ drop-append_seam front tail)),
+      omega arith,
+    )
+
+pub chunk_count : (B a count n : ℕ) (xs : List ℕ) {rest : List ℕ} → rest ≡ drop (a * B) xs → n + a ≡ count → count * B ≤ length xs
+    → (0 < n → length rest < B) → a ≡ count
+chunk_count B a count n xs {rest} d e h f = go (dec_lt 0 n)
+  where
+    go : Dec (0 < n) → a ≡ count
+    go (yes l) =
+        let u : length rest ≡ length xs - a * B = ap length d ∙ length-drop (a * B) xs in
+        let v : a * B + B ≤ length xs = run_room a count B (length xs) (omega arith) h in
+        let w = f l in
+        absurd (omega arith)
+    go (no l) = omega arith
 
 -- a loop that writes one number more
 pub each_more : (P : ℕ → ℕ → Type 0) (xs : List ℕ) (j v : ℕ) → j < length xs → ((i : ℕ) → i < j → P i (get_or xs i 0)) → P j v

@@ -1,7 +1,7 @@
 -- The tables of a place: what each number of them is, and what their rows are.
 use Rattle.std.proofs.Common.{◌≡◌, ℕ, zero, suc, ◌+◌, ◌-◌, ◌*◌, ◌/◌, ◌%◌, ◌<◌, ◌≤◌, ◌≢◌, List, length, get_or, sym, refl, ap, ◌∙◌, subst, ap₂, arith}
 use native.Mathlib.Decide.{ℕ_discrete}
-use native.Mathlib.Nat.{zero-mod, zero-div, mod_self}
+use native.Mathlib.Nat.{zero-mod, zero-div}
 use lib.Arith.{digits_div, digits_mod}
 use Rattle.algebra.proofs.Taylor.{tay_same, tay_other}
 use Rattle.fields.specs.Numbers.{Numbers, AllBelow, Element, elem, pos, plus, times, over, ring_of, field_of, elem_mul, elem_inv, elem_inj}
@@ -27,13 +27,6 @@ pub cell_run : (size n : ℕ) (f : ℕ → ℕ → ℕ) (xs ys : List ℕ) → W
 cell_run size n f xs ys w l a m h k =
     let same = w.long in
     run_at size ys a m k ∙ w.inside (a * size + m) (omega arith) (omega arith) ∙ cell_at size f a m k
-
-pub past_row : (i size : ℕ) → i % size ≢ 0 → size ≤ i → 1 ≤ i - size
-past_row i size n h = go (ℕ_discrete i size)
-  where
-    go : Dec (i ≡ size) → 1 ≤ i - size
-    go (yes e) = absurd (n (ap (λ (k : ℕ). k % size) e ∙ mod_self size))
-    go (no e) = omega arith
 
 module _ (F : Numbers) where
   pub cells_below : (size n : ℕ) (f : ℕ → ℕ → ℕ) (xs ys : List ℕ) → Written 0 n (cell size f) xs ys → length xs ≤ n

@@ -11,7 +11,7 @@ ghost use Rattle.functionals.specs.Tables.{coefficient, point, Proper, TaylorTab
 
 use fields::Field;
 
-// A point (y : z) of the projective line, by the ratio y / z.
+// A point (y : z) of the projective line, by the ratio y / z. An enum of its own and no Option: the point at the infinite slope is not the lack of one.
 #[derive(Clone, Copy)]
 pub enum Slope {
     Finite(u16),
@@ -59,6 +59,7 @@ pub fn taylor_table<F: Field>(out: &mut [u16], size: usize, alpha: u16)
     requires point { alpha < F.Field.numbers.q }
     ensures { TaylorTable F.Field.numbers alpha size out.new }
 {
+    // By index: each number is made of those before it in the same slice.
     for i in 0..out.len() {
         out[i] = entry::<F>(out, size, alpha, i);
     }
@@ -69,8 +70,8 @@ fn unit_table<F: Field>(out: &mut [u16], size: usize)
     requires { 0 < size }
     ensures { WeightTable F.Field.numbers (point F.Field.numbers Slope.Infinite) size out.new }
 {
-    for i in 0..out.len() {
-        out[i] = if i % size + i / size == size - 1 {
+    for (i, weight) in out.iter_mut().enumerate() {
+        *weight = if i % size + i / size == size - 1 {
             1
         } else {
             0
@@ -85,12 +86,8 @@ pub fn weight_table<F: Field>(out: &mut [u16], size: usize, slope: Slope)
     ensures { WeightTable F.Field.numbers (point F.Field.numbers slope) size out.new }
 {
     match slope {
-        Slope::Finite(beta) => {
-            taylor_table::<F>(out, size, beta);
-        }
-        Slope::Infinite => {
-            unit_table::<F>(out, size);
-        }
+        Slope::Finite(beta) => taylor_table::<F>(out, size, beta),
+        Slope::Infinite => unit_table::<F>(out, size),
     }
 }
 
@@ -114,9 +111,9 @@ fn dot<F: Field>(p: &[u16], x: &[u16]) -> u16
     ensures is { elem F.Field.numbers result ≡ total (ring_of F.Field.numbers) (length p.now) (λ m. times F.Field.numbers (poly F.Field.numbers x.now m) (poly F.Field.numbers p.now m)) }
 {
     let mut sum = 0;
-    for i in 0..p.len() {
-        if p[i] != 0 {
-            sum = F::add(sum, product::<F>(x[i], p[i]));
+    for (coefficient, number) in p.iter().zip(x) {
+        if *coefficient != 0 {
+            sum = F::add(sum, product::<F>(*number, *coefficient));
         }
     }
     sum
@@ -132,11 +129,12 @@ pub fn discrepancy<F: Field>(row: &[u16], xs: &[u16], cs: &[u16]) -> u16
     ensures is { Discrepancy F.Field.numbers row.now xs.now cs.now result }
 {
     let mut sum = 0;
+    // The runs are cut off one by one: xs may be empty, and `chunks_exact` does not take the length 0.
     let mut rest = row;
-    for t in 0..cs.len() {
+    for weight in cs {
         let (run, tail) = rest.split_at(xs.len());
-        if cs[t] != 0 {
-            sum = F::add(sum, product::<F>(cs[t], dot::<F>(run, xs)));
+        if *weight != 0 {
+            sum = F::add(sum, product::<F>(*weight, dot::<F>(run, xs)));
         }
         rest = tail;
     }

@@ -7,6 +7,7 @@ ghost use Rattle.codes.specs.Opening.{fault_of};
 ghost use Rattle.fields.specs.Numbers.{AllBelow};
 ghost use Rattle.gathering.specs.Shares.{numbers, count_fault, empty_fault, element_fault, gathering_fault, Gathered};
 
+use codes::first_beyond;
 use collections::source::Source;
 use faults::ListingFault;
 
@@ -27,11 +28,10 @@ fn copy<S: Source>(source: &S, out: &mut [u16]) -> Result<(), ListingFault>
     ensures fault { fault_of result ≡ empty_fault (S.Source.told source.now) }
     ensures shares { OnOk result (out.new ≡ numbers (S.Source.told source.now)) }
 {
-    for place in 0..out.len() {
-        match source.place(place) {
-            Some(value) => out[place] = value,
-            None => return Err(ListingFault::EmptyPlace { place }),
-        }
+    for (place, number) in out.iter_mut().enumerate() {
+        *number = source
+            .place(place)
+            .ok_or(ListingFault::EmptyPlace { place })?;
     }
     Ok(())
 }
@@ -40,15 +40,13 @@ fn copy<S: Source>(source: &S, out: &mut [u16]) -> Result<(), ListingFault>
 fn check_elements(q: u16, xs: &[u16]) -> Result<(), ListingFault>
     ensures { fault_of result ≡ element_fault q xs.now }
 {
-    for (place, value) in xs.iter().enumerate() {
-        if *value >= q {
-            return Err(ListingFault::NotAnElement {
-                place,
-                value: *value,
-            });
-        }
+    match first_beyond(q, xs) {
+        Some(place) => Err(ListingFault::NotAnElement {
+            place,
+            value: xs[place],
+        }),
+        None => Ok(()),
     }
-    Ok(())
 }
 
 // Writes the shares of the source, which are elements of a field of q elements.
@@ -59,11 +57,10 @@ fn fill<S: Source>(source: &S, q: u16, out: &mut [u16]) -> Result<(), ListingFau
     ensures below { OnOk result (AllBelow q out.new) }
 {
     copy(source, out)?;
-    check_elements(q, out)?;
-    Ok(())
+    check_elements(q, out)
 }
 
-// The shares of a source, at the front of an array, for a code of so many places over a field of q elements.
+// The shares of a source, at the front of an array, for a code of so many places over a field of q elements. The array has a fixed size, since there is no heap.
 pub fn gather<S: Source>(source: &S, count: usize, q: u16) -> Result<[u16; 32], ListingFault>
     requires { count ≤ 32 }
     ensures fault { fault_of result ≡ gathering_fault q count (S.Source.told source.now) }

@@ -1,5 +1,5 @@
 -- The loops over the constraints, turn by turn.
-use Rattle.std.proofs.Common.{◌≡◌, ℕ, suc, ◌+◌, ◌-◌, ◌*◌, ◌<◌, ◌≤◌, List, length, get_or, take, drop, sym, ap, ◌∙◌, subst, ap₂, add-one, arith}
+use Rattle.std.proofs.Common.{◌≡◌, ℕ, suc, ◌+◌, ◌-◌, ◌*◌, ◌<◌, ◌≤◌, List, length, get_or, sym, ap, ◌∙◌, subst, ap₂, add-one, arith}
 use Rattle.fields.specs.Numbers.{Numbers, Element, elem, ring_of, field_of}
 use Rattle.polynomials.specs.Series.{poly}
 use Rattle.polynomials.proofs.Readings.{poly_at}
@@ -9,24 +9,15 @@ use Rattle.decoding.proofs.Koetter.{weaken, kept_by_step}
 use Rattle.decoding.proofs.Count.{upto_closed, upto_next, upto_more, upto_row, upto_place, steps_row, steps_place}
 use Rattle.functionals.specs.Runs.{run}
 use Rattle.functionals.specs.Tables.{Taylor, TaylorTable, WeightTable}
-use Rattle.functionals.proofs.Runs.{run_long, rest_run, rest_more}
+use Rattle.functionals.proofs.Runs.{run_long}
+use Rattle.elimination.specs.declared.Tableau.{Tableau}
+use Rattle.elimination.specs.Tableaus.{SameAreas}
 use Rattle.elimination.specs.Stepping.{rows_of, exponents, Meets, Stepped}
 use Rattle.interpolant.specs.States.{State, Reached, Orders, PlaceOf, Passed}
 
--- areas that keep their lengths keep their room
-pub same_room : (a a' p p' r r' : ℕ) → a ≡ a' → p ≡ p' → r ≡ r' → a * p ≤ r → a' * p' ≤ r'
-same_room a a' p p' r r' ea ep er h =
-    subst (λ (z : ℕ). a' * p' ≤ z) er (subst (λ (z : ℕ). a' * z ≤ r) ep (subst (λ (z : ℕ). z * p ≤ r) ea h))
-
-pub same_size : (a a' b p p' : ℕ) → a ≡ a' → p ≡ p' → p ≡ a * b → p' ≡ a' * b
-same_size a a' b p p' ea ep h = sym ep ∙ h ∙ ap (λ (z : ℕ). z * b) ea
-
--- a loop that cuts off runs of a length that is known by another name
-pub front_is : (B B' t : ℕ) (xs rest front : List ℕ) → B' ≡ B → rest ≡ drop (t * B) xs → front ≡ take B' rest → front ≡ run B xs t
-front_is B B' t xs rest front same e f = rest_run B t xs rest front e (f ∙ ap (λ (n : ℕ). take n rest) same)
-
-pub back_is : (B B' t : ℕ) (xs rest tail : List ℕ) → B' ≡ B → rest ≡ drop (t * B) xs → tail ≡ drop B' rest → tail ≡ drop ((t + 1) * B) xs
-back_is B B' t xs rest tail same e f = rest_more B t xs rest tail e (f ∙ ap (λ (n : ℕ). drop n rest) same)
+pub same_areas : {t t' t'' : Tableau} → SameAreas t t' → SameAreas t' t'' → SameAreas t t''
+same_areas a b =
+    record { rows = b.rows ∙ a.rows; ranks = b.ranks ∙ a.ranks; values = b.values ∙ a.values; pivot = b.pivot ∙ a.pivot }
 
 module _ (F : Numbers) where
   module _ (P : Problem (Element F)) where

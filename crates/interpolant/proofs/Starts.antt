@@ -1,8 +1,7 @@
 -- The rows and ranks that the iteration starts from.
-use Rattle.std.proofs.Common.{◌≡◌, ℕ, ◌+◌, ◌-◌, ◌*◌, ◌/◌, ◌%◌, ◌<◌, ◌≤◌, ◌≢◌, List, length, sym, refl, ap, ◌∙◌, subst, mul-le-mul_right, mul-le-mul_left, arith}
+use Rattle.std.proofs.Common.{◌≡◌, ℕ, ◌+◌, ◌*◌, ◌/◌, ◌%◌, ◌<◌, ◌≤◌, ◌≢◌, List, length, sym, refl, ap, ◌∙◌, subst, arith}
 use native.Mathlib.Decide.{ℕ_discrete}
 use lib.Arith.{digits_div, digits_mod}
-use Rattle.std.proofs.lemmas.Nat.{div-add-mod'}
 use Rattle.fields.specs.Numbers.{Numbers, elem, pos}
 use Rattle.polynomials.proofs.Writes.{Written}
 use Rattle.polynomials.proofs.Readings.{poly_at}
@@ -29,13 +28,6 @@ first_no size B i n = go (ℕ_discrete (i / size * B) (i % size))
     go : (d : Dec (i / size * B ≡ i % size)) → ◌≡◌ {A = ℕ} 0 (elim d [ yes _ ↦ 1 | no _ ↦ 0 ])
     go (yes e) = absurd (n e)
     go (no _) = refl
-
--- the product fits where the index does
-pub first_fits : (size B i : ℕ) → B ≤ size → i / size * B ≤ i
-first_fits size B i h =
-    let u : i / size * B ≤ i / size * size = mul-le-mul_left (i / size) h in
-    let v = div-add-mod' i size in
-    omega arith
 
 -- the place of the coefficient m of the run t of the row j
 place_div : (size B j t m : ℕ) → t * B + B ≤ size → m < B → (j * size + (t * B + m)) / size ≡ j
@@ -81,13 +73,3 @@ module _ (F : Numbers) where
           let same = w.long in
           family_at F B (run size ys j) t m u ∙ poly_at F (run size ys j) (t * B + m)
           ∙ ap (elem F) (run_at size ys j (t * B + m) (omega arith) ∙ w.inside (j * size + (t * B + m)) (omega arith) (omega arith))
-
--- the weight of a position is at most that of all
-pub weight_fits : (j last w₁ w₂ : ℕ) → j ≤ last → j * w₂ + (last - j) * w₁ ≤ last * (w₁ + w₂)
-weight_fits j last w₁ w₂ h =
-    let u : j * w₂ ≤ last * w₂ = mul-le-mul_right w₂ h in
-    let v : (last - j) * w₁ ≤ last * w₁ = mul-le-mul_right w₁ (omega arith) in
-    omega arith
-
-pub same_rest : (j n n' w : ℕ) → n ≡ n' → (n - 1 - j) * w ≡ (n' - 1 - j) * w
-same_rest j n n' w e = ap (λ (z : ℕ). (z - 1 - j) * w) e

@@ -4,13 +4,15 @@
 
 ghost use Rattle.std.specs.Prelude.{◌≡◌, ℕ, suc, ◌+◌, ◌-◌, ◌*◌, ◌^◌, ◌<◌, ◌≤◌, length, slice_index};
 ghost use Rattle.fields.specs.Numbers.{AllBelow};
-ghost use Rattle.functionals.specs.Tables.{TaylorTable};
+ghost use Rattle.functionals.specs.Tables.{point, Proper, TaylorTable, WeightTable};
+ghost use Rattle.elimination.specs.Tableaus.{Fits, SameAreas};
+ghost use Rattle.interpolant.specs.Places.{Placed};
 ghost use Rattle.interpolant.specs.States.{Orders, Passed, Done};
 ghost use Rattle.interpolant.specs.Problems.{problem, basis_problem, Solution, Ratios, Decodes, FirstRows, FirstRanks, Enough, room as cells};
 
-use elimination::{fetch, step};
+use elimination::{Tableau, fetch};
 use fields::Field;
-use functionals::{slope_of, taylor_table, weight_table};
+use functionals::{Slope, slope_of, taylor_table, weight_table};
 use polynomials::evaluate;
 
 // What is asked of an interpolant: its degree in y and z, the multiplicity of its roots, the weights of z and y, and the bound on its weighted degrees.
@@ -23,12 +25,41 @@ pub struct Shape {
     pub bound: usize,
 }
 
+// The places of the roots: at x = points[i] the ratio y : z is ys[i] : zs[i].
+#[derive(Clone, Copy)]
+pub struct Places<'a> {
+    pub points: &'a [u16],
+    pub ys: &'a [u16],
+    pub zs: &'a [u16],
+}
+
+// The numbers of a place: the Taylor rows at its point, and the weights at its slope.
+#[derive(Drop)]
+struct Tables<'a> {
+    taylor: &'a mut [u16],
+    weights: &'a mut [u16],
+}
+
+impl Tables<'_> {
+    // Fills both for the place (alpha; slope), where a row has count runs of bound numbers.
+    fn fill<F: Field>(&mut self, alpha: u16, slope: Slope, count: usize, bound: usize)
+        requires point { alpha < F.Field.numbers.q }
+        requires proper { Proper F.Field.numbers slope }
+        requires rank { 0 < count }
+        requires some { 0 < bound }
+        ensures taylor { TaylorTable F.Field.numbers alpha bound self.new.taylor.now }
+        ensures weights { WeightTable F.Field.numbers (point F.Field.numbers slope) count self.new.weights.now }
+        ensures tall { length self.new.taylor.now ≡ length self.old.taylor.now }
+        ensures wide { length self.new.weights.now ≡ length self.old.weights.now }
+    {
+        taylor_table::<F>(self.taylor, bound, alpha);
+        weight_table::<F>(self.weights, count, slope);
+    }
+}
+
 // The constraints (0, b), .., (count - 1, b) at the place alpha, where cs has the weights at the order b.
 fn meet_orders<F: Field>(
-    rows: &mut [u16],
-    ranks: &mut [usize],
-    values: &mut [u16],
-    pivot: &mut [u16],
+    tableau: &mut Tableau,
     alpha: u16,
     taylor: &[u16],
     cs: &[u16],
@@ -36,111 +67,62 @@ fn meet_orders<F: Field>(
     count: usize,
 )
     requires point { alpha < F.Field.numbers.q }
-    requires first { AllBelow F.Field.numbers.q rows.old }
-    requires second { TaylorTable F.Field.numbers alpha bound taylor.now }
-    requires third { AllBelow F.Field.numbers.q cs.now }
-    requires ranked { length ranks.old ≡ length cs.now }
-    requires valued { length values.old ≡ length cs.now }
-    requires size { length pivot.old ≡ length cs.now * bound }
-    requires room { length cs.now * length pivot.old ≤ length rows.old }
+    requires some { 0 < bound }
+    requires taylor { TaylorTable F.Field.numbers alpha bound taylor.now }
+    requires weights { AllBelow F.Field.numbers.q cs.now }
+    requires fits { Fits F.Field.numbers.q (length cs.now) bound tableau.old }
     requires orders { count * bound ≤ length taylor.now }
-    ensures below { AllBelow F.Field.numbers.q rows.new }
-    ensures met { Orders F.Field.numbers bound alpha cs.now count rows.old ranks.old rows.new ranks.new }
+    ensures fits { Fits F.Field.numbers.q (length cs.now) bound tableau.new }
+    ensures areas { SameAreas tableau.old tableau.new }
+    ensures met { Orders F.Field.numbers bound alpha cs.now count tableau.old.rows.now tableau.old.ranks.now tableau.new.rows.now tableau.new.ranks.now }
 {
-    let mut rest = taylor;
-    for a in 0..count {
-        let (xs, tail) = rest.split_at(bound);
-        step::<F>(rows, ranks, values, pivot, alpha, xs, cs);
-        rest = tail;
+    for xs in taylor.chunks_exact(bound).take(count) {
+        tableau.step::<F>(alpha, xs, cs);
     }
 }
 
 // All constraints at the place alpha, whose tables are given.
-fn meet_place<F: Field>(
-    rows: &mut [u16],
-    ranks: &mut [usize],
-    values: &mut [u16],
-    pivot: &mut [u16],
-    alpha: u16,
-    taylor: &[u16],
-    weights: &[u16],
-    bound: usize,
-    multiplicity: usize,
-)
+fn meet_place<F: Field>(tableau: &mut Tableau, shape: Shape, alpha: u16, tables: &Tables)
     requires point { alpha < F.Field.numbers.q }
-    requires first { AllBelow F.Field.numbers.q rows.old }
-    requires second { TaylorTable F.Field.numbers alpha bound taylor.now }
-    requires third { AllBelow F.Field.numbers.q weights.now }
-    requires ranked { length ranks.old ≡ length values.old }
-    requires size { length pivot.old ≡ length values.old * bound }
-    requires room { length values.old * length pivot.old ≤ length rows.old }
-    requires tall { multiplicity * bound ≤ length taylor.now }
-    requires wide { multiplicity * length values.old ≤ length weights.now }
-    ensures below { AllBelow F.Field.numbers.q rows.new }
-    ensures met { Passed F.Field.numbers (length values.old) bound alpha multiplicity weights.now rows.old ranks.old rows.new ranks.new }
+    requires some { 0 < shape.bound }
+    requires taylor { TaylorTable F.Field.numbers alpha shape.bound tables.now.taylor.now }
+    requires weights { AllBelow F.Field.numbers.q tables.now.weights.now }
+    requires fits { Fits F.Field.numbers.q (suc shape.degree) shape.bound tableau.old }
+    requires tall { shape.multiplicity * shape.bound ≤ length tables.now.taylor.now }
+    requires wide { shape.multiplicity * suc shape.degree ≤ length tables.now.weights.now }
+    ensures fits { Fits F.Field.numbers.q (suc shape.degree) shape.bound tableau.new }
+    ensures areas { SameAreas tableau.old tableau.new }
+    ensures met { Passed F.Field.numbers (suc shape.degree) shape.bound alpha shape.multiplicity tables.now.weights.now tableau.old.rows.now tableau.old.ranks.now tableau.new.rows.now tableau.new.ranks.now }
 {
-    let mut rest = weights;
-    for b in 0..multiplicity {
-        let (cs, tail) = rest.split_at(values.len());
-        meet_orders::<F>(
-            rows,
-            ranks,
-            values,
-            pivot,
-            alpha,
-            taylor,
-            cs,
-            bound,
-            multiplicity - b,
-        );
-        rest = tail;
+    let count = tableau.ranks.len();
+    let taylor = &*tables.taylor;
+    let weights = &*tables.weights;
+    for (b, cs) in weights
+        .chunks_exact(count)
+        .take(shape.multiplicity)
+        .enumerate()
+    {
+        let orders = shape.multiplicity - b;
+        meet_orders::<F>(tableau, alpha, taylor, cs, shape.bound, orders);
     }
 }
 
-// All constraints at the places (points[i]; ys[i] : zs[i]). The tables are filled once for each place.
-fn meet_places<F: Field>(
-    rows: &mut [u16],
-    ranks: &mut [usize],
-    values: &mut [u16],
-    pivot: &mut [u16],
-    taylor: &mut [u16],
-    weights: &mut [u16],
-    points: &[u16],
-    ys: &[u16],
-    zs: &[u16],
-    bound: usize,
-    multiplicity: usize,
-)
-    requires all { AllBelow F.Field.numbers.q points.now }
-    requires all_ys { AllBelow F.Field.numbers.q ys.now }
-    requires all_zs { AllBelow F.Field.numbers.q zs.now }
-    requires count_ys { length points.now ≡ length ys.now }
-    requires count_zs { length points.now ≡ length zs.now }
-    requires some { 0 < bound }
-    requires rank { 0 < length values.old }
-    requires first { AllBelow F.Field.numbers.q rows.old }
-    requires ranked { length ranks.old ≡ length values.old }
-    requires size { length pivot.old ≡ length values.old * bound }
-    requires room { length values.old * length pivot.old ≤ length rows.old }
-    requires tall { multiplicity * bound ≤ length taylor.old }
-    requires wide { multiplicity * length values.old ≤ length weights.old }
-    ensures below { AllBelow F.Field.numbers.q rows.new }
-    ensures met { Done F.Field.numbers (length values.old) bound multiplicity points.now ys.now zs.now rows.old ranks.old rows.new ranks.new }
+// All constraints at the places. The tables are filled once for each place.
+fn meet_places<F: Field>(tableau: &mut Tableau, tables: &mut Tables, shape: Shape, places: Places)
+    requires places { Placed F.Field.numbers.q places }
+    requires some { 0 < shape.bound }
+    requires fits { Fits F.Field.numbers.q (suc shape.degree) shape.bound tableau.old }
+    requires tall { shape.multiplicity * shape.bound ≤ length tables.old.taylor.now }
+    requires wide { shape.multiplicity * suc shape.degree ≤ length tables.old.weights.now }
+    ensures fits { Fits F.Field.numbers.q (suc shape.degree) shape.bound tableau.new }
+    ensures areas { SameAreas tableau.old tableau.new }
+    ensures met { Done F.Field.numbers (suc shape.degree) shape.bound shape.multiplicity places.entry.points.now places.entry.ys.now places.entry.zs.now tableau.old.rows.now tableau.old.ranks.now tableau.new.rows.now tableau.new.ranks.now }
 {
-    for i in 0..points.len() {
-        taylor_table::<F>(taylor, bound, points[i]);
-        weight_table::<F>(weights, values.len(), slope_of::<F>(ys[i], zs[i]));
-        meet_place::<F>(
-            rows,
-            ranks,
-            values,
-            pivot,
-            points[i],
-            taylor,
-            weights,
-            bound,
-            multiplicity,
-        );
+    let count = tableau.ranks.len();
+    let ratios = places.ys.iter().zip(places.zs);
+    for (alpha, (y, z)) in places.points.iter().zip(ratios) {
+        tables.fill::<F>(*alpha, slope_of::<F>(*y, *z), count, shape.bound);
+        meet_place::<F>(tableau, shape, *alpha, tables);
     }
 }
 
@@ -150,8 +132,8 @@ fn start_rows<F: Field>(rows: &mut [u16], size: usize, bound: usize)
     requires fit { bound ≤ size }
     ensures { FirstRows F.Field.numbers size bound rows.new }
 {
-    for i in 0..rows.len() {
-        rows[i] = if i / size * bound == i % size { 1 } else { 0 };
+    for (i, x) in rows.iter_mut().enumerate() {
+        *x = if i / size * bound == i % size { 1 } else { 0 };
     }
 }
 
@@ -160,8 +142,9 @@ fn start_ranks(ranks: &mut [usize], w1: usize, w2: usize)
     requires { (length ranks.old - 1) * (w1 + w2) < 2 ^ 64 }
     ensures { FirstRanks w1 w2 ranks.new }
 {
-    for j in 0..ranks.len() {
-        ranks[j] = j * w2 + (ranks.len() - 1 - j) * w1;
+    let count = ranks.len();
+    for (j, rank) in ranks.iter_mut().enumerate() {
+        *rank = j * w2 + (count - 1 - j) * w1;
     }
 }
 
@@ -171,36 +154,28 @@ fn least(ranks: &[usize]) -> usize
     ensures inside { result < length ranks.now }
     ensures least { (j : ℕ) → j < length ranks.now → slice_index ranks.now result ≤ slice_index ranks.now j }
 {
-    let mut best = 0;
-    for j in 0..ranks.len() {
-        if ranks[j] < ranks[best] {
-            best = j;
-        }
-    }
-    best
+    ranks
+        .iter()
+        .enumerate()
+        .min_by_key(|(_, rank)| **rank)
+        .map_or(0, |(j, _)| j)
 }
 
-// An interpolant for the places (points[i]; ys[i] : zs[i]), written to out as degree + 1 runs of bound numbers. The rows, the tables and the values
-// stand in the work area, whose numbers are of no use afterwards; ranks has room for a number for each row.
+// An interpolant for the places, written to out as degree + 1 runs of bound numbers. The rows, the tables and the values stand in the work area, whose
+// numbers are of no use afterwards; ranks has room for a number for each row.
 pub fn interpolate_points<F: Field>(
     shape: Shape,
-    points: &[u16],
-    ys: &[u16],
-    zs: &[u16],
+    places: Places,
     out: &mut [u16],
     work: &mut [u16],
     ranks: &mut [usize],
 )
-    requires all { AllBelow F.Field.numbers.q points.now }
-    requires all_ys { AllBelow F.Field.numbers.q ys.now }
-    requires all_zs { AllBelow F.Field.numbers.q zs.now }
-    requires count_ys { length points.now ≡ length ys.now }
-    requires count_zs { length points.now ≡ length zs.now }
+    requires places { Placed F.Field.numbers.q places }
     requires size { length out.old ≡ suc shape.degree * shape.bound }
     requires ranked { length ranks.old ≡ suc shape.degree }
     requires space { cells shape ≤ length work.old }
-    requires enough { Enough shape (length points.now) }
-    ensures { Solution F.Field.numbers (problem F.Field.numbers shape points.now ys.now zs.now) (length points.now) shape.multiplicity out.new }
+    requires enough { Enough shape (length places.points.now) }
+    ensures { Solution F.Field.numbers (problem F.Field.numbers shape places.entry.points.now places.entry.ys.now places.entry.zs.now) (length places.entry.points.now) shape.multiplicity out.new }
 {
     let count = shape.degree + 1;
     let size = out.len();
@@ -211,20 +186,16 @@ pub fn interpolate_points<F: Field>(
     let (values, _) = rest.split_at_mut(count);
     start_ranks(ranks, shape.w1, shape.w2);
     start_rows::<F>(rows, size, shape.bound);
-    meet_places::<F>(
+    let mut tableau = Tableau {
         rows,
         ranks,
         values,
         pivot,
-        taylor,
-        weights,
-        points,
-        ys,
-        zs,
-        shape.bound,
-        shape.multiplicity,
-    );
-    fetch::<F>(out, rows, least(ranks));
+    };
+    let mut tables = Tables { taylor, weights };
+    meet_places::<F>(&mut tableau, &mut tables, shape, places);
+    let best = least(tableau.ranks);
+    fetch::<F>(out, tableau.rows, best);
 }
 
 // The ratios y : z of the points α, where y = h11(α) and z = -h21(α).
@@ -236,9 +207,10 @@ fn ratios<F: Field>(ys: &mut [u16], zs: &mut [u16], points: &[u16], h11: &[u16],
     requires count_zs { length zs.old ≡ length points.now }
     ensures { Ratios F.Field.numbers points.now h11.now h21.now ys.new zs.new }
 {
-    for i in 0..points.len() {
-        ys[i] = evaluate::<F>(h11, points[i]);
-        zs[i] = F::neg(evaluate::<F>(h21, points[i]));
+    // By index in ys and zs: what a zip over `iter_mut` leaves in its slice is not known to a proof.
+    for (i, alpha) in points.iter().enumerate() {
+        ys[i] = evaluate::<F>(h11, *alpha);
+        zs[i] = F::neg(evaluate::<F>(h21, *alpha));
     }
 }
 
@@ -265,5 +237,5 @@ pub fn interpolate_basis<F: Field>(
     let (ys, rest) = work.split_at_mut(points.len());
     let (zs, rest) = rest.split_at_mut(points.len());
     ratios::<F>(ys, zs, points, h11, h21);
-    interpolate_points::<F>(shape, points, ys, zs, out, rest, ranks);
+    interpolate_points::<F>(shape, Places { points, ys, zs }, out, rest, ranks);
 }

@@ -1,5 +1,5 @@
 -- What an open collection that is sound is known to have.
-use Rattle.std.proofs.Common.{◌≡◌, ℕ, ◌≤◌, Bool, true, false, ◌||◌, eqb, leb, List, length, get_or, take, None, Option, ap, ◌∙◌, subst, arith, length-take, leb-false}
+use Rattle.std.proofs.Common.{◌≡◌, ℕ, ◌≤◌, Bool, true, false, ◌||◌, eqb, leb, List, length, get_or, take, Some, None, Option, ap, ◌∙◌, subst, arith, length-take, leb-false}
 use lib.ListN.{length-map}
 use Rattle.gathering.specs.Shares.{number, Gathered}
 use Rattle.fields.specs.Numbers.{AllBelow}
@@ -8,11 +8,10 @@ use Rattle.codes.specs.Opening.{Given, unfit, first_unfit, count_fault, threshol
 use Rattle.codes.proofs.Firsts.{or_else_none, below_none}
 use Rattle.codes.proofs.Opened.{counted, places, accepted}
 use Rattle.collections.specs.Book.{Fair}
-use Rattle.collections.specs.Standing.{given_of, page, Sound}
+use Rattle.collections.proofs.Booked.{on_page}
+use Rattle.collections.specs.Standing.{given_of, opened_in, Sound}
 use Rattle.collections.specs.declared.Kept.{Kept}
 use Rattle.collections.specs.declared.Opened.{Opened}
-use Rattle.collections.specs.declared.State.{State}
-use Rattle.collections.specs.declared.State.TheVariants.{Open}
 
 pub record Fitting (q : ℕ) (g : Given) : Type 0 where
   pub points : AllBelow q g.points
@@ -38,8 +37,8 @@ passed q g e =
     let (x, y, z) = places q g p in
     record { points = fit_below q g.points x; multipliers = fit_below q g.multipliers z; same = v; short = u.1; accepts = accepted g t }
 
-pub fitting : (q : ℕ) (K : Kept) (o : Opened) → K.state ≡ Open o → Sound q K → Fitting q (given_of o)
-fitting q K o e s = passed q (given_of o) (subst (λ (t : State). Fair q (page t K.places.at)) e s.1).passed
+pub fitting : (q : ℕ) (K : Kept) (o : Opened) → opened_in K.page ≡ Some o → Sound q K → Fitting q (given_of o)
+fitting q K o e s = passed q (given_of o) (subst (Fair q) (on_page K.page o e) s.1).passed
 
 pub points_long : (o : Opened) → length (take o.code.count o.code.points) ≡ o.code.count
 points_long o = simp length-take (omega arith)

@@ -1,5 +1,5 @@
 -- The checks of the stage, one after another, and what it writes.
-use Rattle.std.proofs.Common.{◌≡◌, ℕ, suc, ◌*◌, ◌≤◌, Bool, true, false, cond, ◌||◌, ltb, List, length, take, drop, ℤ, pos, negsuc, Some, None, Err, Option, Result, sym, refl, ap, ◌∙◌, subst, ap₂, arith, ltb-false}
+use Rattle.std.proofs.Common.{◌≡◌, ℕ, suc, ◌+◌, ◌*◌, ◌≤◌, Bool, true, false, cond, ◌||◌, ltb, List, length, take, drop, ℤ, pos, negsuc, Some, None, Err, Option, Result, sym, refl, ap, ◌∙◌, subst, ap₂, add-one, arith, ltb-false}
 use Rattle.fields.specs.Numbers.{Numbers}
 use Rattle.faults.specs.declared.ListingFault.{ListingFault}
 use Rattle.faults.specs.declared.ListingFault.TheVariants.{NegativeWeight, ResultArea, WorkArea}
@@ -10,7 +10,7 @@ use Rattle.codes.proofs.Firsts.{when_none, or_else_none}
 use Rattle.stages.specs.Basis.{Basis, basis, w1, w2}
 use Rattle.interpolant.specs.declared.Shape.{Shape}
 use Rattle.interpolant.specs.Problems.{basis_problem, Solution, Decodes}
-use Rattle.interpolating.specs.Interpolation.{negative, amount, shape_of, size_of, work_of, weight_fault, area_fault, shares_fault, Interpolated, Written}
+use Rattle.interpolating.specs.Interpolation.{negative, amount, shape_of, size_of, work_of, weight_fault, room_fault, area_fault, shares_fault, Interpolated, Written}
 
 -- weights that pass their check are numbers
 not_negative : (z : ℤ) → negative z ≡ false → pos (amount z) ≡ z
@@ -26,15 +26,19 @@ weights_are a b e =
     let (u, v) = neither (negative a) (negative b) (when_none (negative a || negative b) NegativeWeight (sym e)) in
     (not_negative a u, not_negative b v)
 
+-- the room that a shape takes
+pub wanted : (S : Shape) (x : Setting) (a b : ℤ) → S ≡ shape_of x a b → (S.degree + 1) * S.bound ≡ size_of x
+wanted S x a b e = ap (λ (T : Shape). (T.degree + 1) * T.bound) e ∙ ap (λ (n : ℕ). n * (x.multiplicity * x.radius)) (add-one x.list_limit)
+
 least_work : (t : Bool) → 32000 ≤ cond t 32000 400000
 least_work true = omega arith
 least_work false = omega arith
 
 -- areas that pass their check are long enough
-pub areas_are : (n : ℕ) (x : Setting) (m w : ℕ) → None ≡ area_fault n x m w → (size_of x ≤ m) × (32000 ≤ w)
-areas_are n x m w e =
-    let (u, v) = or_else_none (when (ltb m (size_of x)) (ResultArea m)) (when (ltb w (work_of n x)) (WorkArea w)) (sym e) in
-    let a = ltb-false m (size_of x) (when_none (ltb m (size_of x)) (ResultArea m) u) in
+pub areas_are : (n : ℕ) (x : Setting) (z m w : ℕ) → None ≡ room_fault n x z m w → (z ≤ m) × (32000 ≤ w)
+areas_are n x z m w e =
+    let (u, v) = or_else_none (when (ltb m z) (ResultArea m)) (when (ltb w (work_of n x)) (WorkArea w)) (sym e) in
+    let a = ltb-false m z (when_none (ltb m z) (ResultArea m) u) in
     let b = ltb-false w (work_of n x) (when_none (ltb w (work_of n x)) (WorkArea w) v) in
     let c = least_work (small n x.multiplicity) in
     (a, omega arith)

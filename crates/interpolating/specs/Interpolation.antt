@@ -1,12 +1,12 @@
 -- Interpolating, by the book: the shape of the interpolant that shares ask for, the checks that refuse the call, in order, and what it writes.
-use Rattle.std.specs.Prelude.{◌≡◌, ℕ, suc, ◌*◌, Bool, true, false, cond, ◌||◌, List, length, take, drop, ℤ, pos, negsuc, Some, Ok, Err, Option, Result, nat_lt}
+use Rattle.std.specs.Prelude.{◌≡◌, ℕ, suc, ◌*◌, Bool, true, false, ◌||◌, List, length, take, drop, ℤ, pos, negsuc, Some, Ok, Err, Option, Result, nat_lt}
 use Rattle.fields.specs.Numbers.{Numbers}
 use Rattle.faults.specs.declared.CollectionFault.TheVariants.{Blank}
 use Rattle.faults.specs.declared.ListingFault.{ListingFault}
 use Rattle.faults.specs.declared.ListingFault.TheVariants.{Collection, NegativeWeight, ResultArea, WorkArea}
 use Rattle.codes.specs.declared.Setting.{Setting}
 use Rattle.codes.specs.First.{or_else, when}
-use Rattle.codes.specs.Settings.{small}
+use Rattle.codes.specs.Settings.{work_area}
 use Rattle.stages.specs.Basis.{Basis, basis, w1 as first_weight, w2 as second_weight}
 use Rattle.collections.specs.Book.{Book, unopened, opened}
 use Rattle.gathering.specs.Shares.{numbers, gathering_fault}
@@ -32,15 +32,19 @@ abbrev pub size_of : Setting → ℕ
 size_of x = suc x.list_limit * (x.multiplicity * x.radius)
 
 abbrev pub work_of : ℕ → Setting → ℕ
-work_of n x = cond (small n x.multiplicity) 32000 400000
+work_of n x = work_area n x
 
 -- 25
 abbrev pub weight_fault : ℤ → ℤ → Option ListingFault
 weight_fault a b = when (negative a || negative b) NegativeWeight
 
--- 10, then 11, for areas of m and w numbers
+-- 10, then 11, for a result area that has m of the z that are wanted and a work area of w numbers
+abbrev pub room_fault : ℕ → Setting → ℕ → ℕ → ℕ → Option ListingFault
+room_fault n x z m w = or_else (when (nat_lt m z) (ResultArea m)) (when (nat_lt w (work_of n x)) (WorkArea w))
+
+-- the same for areas of m and w numbers
 abbrev pub area_fault : ℕ → Setting → ℕ → ℕ → Option ListingFault
-area_fault n x m w = or_else (when (nat_lt m (size_of x)) (ResultArea m)) (when (nat_lt w (work_of n x)) (WorkArea w))
+area_fault n x m w = room_fault n x (size_of x) m w
 
 module _ (F : Numbers) where
   -- 25, 10, 11, for the points αs, the multipliers vs, the threshold k and the shares rs

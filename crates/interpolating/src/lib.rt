@@ -6,9 +6,9 @@ ghost use Rattle.areas.specs.Zeros.{AllZero};
 ghost use Rattle.fields.specs.Numbers.{AllBelow};
 ghost use Rattle.codes.specs.Opening.{fault_of};
 ghost use Rattle.decoding.specs.Setting.{Accepted};
-ghost use Rattle.collections.specs.Standing.{standing, Sound};
+ghost use Rattle.collections.specs.Standing.{standing};
 ghost use Rattle.interpolant.specs.Problems.{basis_problem, Solution, Decodes, Enough, room as cells};
-ghost use Rattle.interpolating.specs.Interpolation.{shape_of, weight_fault, area_fault, shares_fault, Written, interpolating_fault, WrittenBy};
+ghost use Rattle.interpolating.specs.Interpolation.{shape_of, weight_fault, room_fault, shares_fault, Written, interpolating_fault, WrittenBy};
 
 use areas::Wipe;
 use basis::{Basis, find_basis};
@@ -19,6 +19,7 @@ use faults::ListingFault;
 use fields::Field;
 use gathering::gather;
 use interpolant::{Shape, interpolate_basis};
+use received::Received;
 
 // The shape of the interpolant, where neither weight is negative.
 pub fn shape(setting: Setting, w1: i16, w2: i16) -> Shape
@@ -47,27 +48,23 @@ fn weigh(setting: Setting, basis: &Basis) -> Result<Shape, ListingFault>
     Ok(shape(setting, basis.w1, basis.w2))
 }
 
-// Refuses areas that are too short, the result area first.
-fn check_areas(n: u8, setting: Setting, out: usize, work: usize) -> Result<(), ListingFault>
-    ensures { fault_of result ≡ area_fault n setting out work }
+// Refuses a result area that has less than is wanted, and then a work area that is too short for a code of n places.
+pub fn check_areas(
+    n: u8,
+    setting: Setting,
+    wanted: usize,
+    out: usize,
+    work: usize,
+) -> Result<(), ListingFault>
+    ensures { fault_of result ≡ room_fault n setting wanted out work }
 {
-    let bound = usize::from(setting.multiplicity) * usize::from(setting.radius);
-    if out < (usize::from(setting.list_limit) + 1) * bound {
+    if out < wanted {
         return Err(ListingFault::ResultArea { length: out });
     }
-    let least = if setting.is_small(n) { 32_000 } else { 400_000 };
-    if work < least {
+    if work < setting.work_area(n) {
         return Err(ListingFault::WorkArea { length: work });
     }
     Ok(())
-}
-
-// The first d numbers.
-fn row(xs: &[u16], d: usize) -> &[u16]
-    requires { d ≤ length xs.now }
-    ensures { result.now ≡ take d xs.now }
-{
-    &xs[0..d]
 }
 
 // Writes the interpolant to the front of the area.
@@ -99,44 +96,33 @@ fn write<F: Field>(
         h21,
         &mut out[0..count * shape.bound],
         work,
-        &mut ranks[0..count],
+        &mut ranks[..count],
     );
 }
 
 // Interpolates the shares of a code: the basis first, then the checks of weights and areas.
 fn interpolate_shares<F: Field>(
-    points: &[u16],
-    multipliers: &[u16],
+    received: &Received<'_, F>,
     threshold: u8,
     setting: Setting,
-    shares: &[u16],
     out: &mut [u16],
     work: &mut [u16],
 ) -> Result<(), ListingFault>
-    requires points { AllBelow F.Field.numbers.q points.now }
-    requires multipliers { AllBelow F.Field.numbers.q multipliers.now }
-    requires shares { AllBelow F.Field.numbers.q shares.now }
-    requires same { length multipliers.now ≡ length points.now }
-    requires told { length shares.now ≡ length points.now }
-    requires short { length points.now ≤ 32 }
-    requires accepted { Accepted (length points.now) threshold setting.radius setting.multiplicity setting.list_limit }
-    ensures fault { fault_of result ≡ shares_fault F.Field.numbers points.now multipliers.now threshold setting shares.now (length out.old) (length work.old) }
-    ensures area { Written F.Field.numbers points.now multipliers.now threshold setting shares.now result out.old out.new }
+    requires short { length received.now.points.now ≤ 32 }
+    requires accepted { Accepted (length received.now.points.now) threshold setting.radius setting.multiplicity setting.list_limit }
+    ensures fault { fault_of result ≡ shares_fault F.Field.numbers received.now.points.now received.now.multipliers.now threshold setting received.now.shares.now (length out.old) (length work.old) }
+    ensures area { Written F.Field.numbers received.now.points.now received.now.multipliers.now threshold setting received.now.shares.now result out.old out.new }
 {
-    let basis = find_basis::<F>(
-        points,
-        multipliers,
-        usize::from(threshold),
-        setting.radius,
-        shares,
-    );
+    let points = received.points;
+    let basis = find_basis(received, usize::from(threshold), setting.radius);
     let shape = weigh(setting, &basis)?;
-    check_areas(points.len() as u8, setting, out.len(), work.len())?;
+    let wanted = (shape.degree + 1) * shape.bound;
+    check_areas(points.len() as u8, setting, wanted, out.len(), work.len())?;
     write::<F>(
         shape,
         points,
-        row(&basis.h11, basis.d),
-        row(&basis.h21, basis.d),
+        &basis.h11[..basis.d],
+        &basis.h21[..basis.d],
         out,
         work,
     );
@@ -151,7 +137,6 @@ pub fn interpolate<F: Field, S: Source>(
     out: &mut [u16],
     work: &mut [u16],
 ) -> Result<(), ListingFault>
-    requires { Sound F.Field.numbers.q collection.now.kept }
     ensures fault { fault_of result ≡ interpolating_fault F.Field.numbers (standing collection.now.kept) (S.Source.told source.now) (length out.old) (length work.old) }
     ensures area { WrittenBy F.Field.numbers (standing collection.now.kept) (S.Source.told source.now) result out.old out.new }
     ensures wiped { AllZero work.new }
@@ -159,14 +144,8 @@ pub fn interpolate<F: Field, S: Source>(
     let guard = Wipe { area: work };
     let opened = collection.opened()?;
     let code = &opened.code;
-    let shares = gather(source, code.count(), F::count())?;
-    interpolate_shares::<F>(
-        code.points(),
-        code.multipliers(),
-        code.threshold(),
-        opened.setting,
-        row(&shares, code.count()),
-        out,
-        guard.area,
-    )
+    let n = code.count();
+    let shares = gather(source, n, F::Q)?;
+    let received = Received::<F>::new(code.points(), code.multipliers(), &shares[..n]);
+    interpolate_shares(&received, code.threshold(), opened.setting, out, guard.area)
 }

@@ -8,7 +8,6 @@ use Rattle.codes.specs.First.{or_else, mapped}
 use Rattle.codes.specs.Opening.{Given, first_fault, Holds}
 use Rattle.codes.specs.Codewords.{codeword, codeword_of, message_fault, issue_fault, area_after}
 use Rattle.codes.specs.declared.Code.{Code}
-use Rattle.codes.specs.declared.Setting.{Setting}
 use Rattle.faults.specs.declared.CodeFault.{CodeFault}
 use Rattle.faults.specs.declared.SheetFault.TheVariants.{Collection}
 use Rattle.faults.specs.declared.CollectionFault.TheVariants.{Code as by_code}
@@ -17,14 +16,6 @@ use Rattle.issuance.specs.declared.IssueFault.TheVariants.{Sheet as by_sheet, Li
 use Rattle.issuance.specs.Issuance.{over_fault}
 use Rattle.codes.proofs.Firsts.{when_false}
 use Rattle.codes.proofs.Issued.{at_place}
-
-abbrev pub given_by : List ℕ → List ℕ → ℕ → Setting → Given
-given_by points multipliers threshold setting = record { points = points; multipliers = multipliers; threshold = threshold; setting = setting }
-
-pub same_given : {p p' m m' : List ℕ} {k k' : ℕ} {x x' : Setting} → p ≡ p' → m ≡ m' → k ≡ k' → x ≡ x' → given_by p m k x ≡ given_by p' m' k' x'
-same_given {p} {p'} {m} {m'} {k} {k'} {x} {x'} a b d e =
-    ap (λ (z : List ℕ). given_by z m k x) a ∙ ap (λ (z : List ℕ). given_by p' z k x) b ∙ ap (λ (z : ℕ). given_by p' m' z x) d
-    ∙ ap (λ (z : Setting). given_by p' m' k' z) e
 
 or_else_none : {A : Type 0} (o p : Option A) → p ≡ None → or_else o p ≡ o
 or_else_none None p e = e

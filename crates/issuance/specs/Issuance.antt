@@ -1,12 +1,12 @@
 -- Issuing a message by a sheet: which check refuses first, and what is issued where none does.
-use Rattle.std.specs.Prelude.{◌≡◌, ℕ, cond, List, take, Some, None, Option, ◌==◌, slice_index}
+use Rattle.std.specs.Prelude.{◌≡◌, ℕ, List, take, Some, None, Option, slice_index}
 use Rattle.fields.specs.Numbers.{Numbers}
-use Rattle.fields.specs.Fields.{numbers7, numbers16, numbers256, numbers929}
 use Rattle.faults.specs.declared.SheetFault.TheVariants.{OtherField, Collection}
 use Rattle.faults.specs.declared.CollectionFault.TheVariants.{Code}
 use Rattle.codes.specs.First.{or_else, mapped}
 use Rattle.codes.specs.Opening.{first_fault, Holds}
 use Rattle.codes.specs.Codewords.{codeword, message_fault}
+use Rattle.sheets.specs.Named.{field_numbered, numbers_named}
 use Rattle.sheets.specs.Sheet.{Sheet as SheetParts, sheet_of, given_in, header_fault}
 use Rattle.issuance.specs.declared.IssueFault.{IssueFault}
 use Rattle.issuance.specs.declared.IssueFault.TheVariants.{Sheet, Listing}
@@ -26,9 +26,7 @@ pub record Issues (F : Numbers) (s : SheetParts) (message : List ℕ) (i : Issue
 
 -- the field of a sheet number
 abbrev pub field_by : ℕ → Option Numbers
-field_by tag =
-    cond (tag == 1) (Some numbers7)
-    (cond (tag == 2) (Some numbers16) (cond (tag == 3) (Some numbers256) (cond (tag == 4) (Some numbers929) None)))
+field_by tag = mapped numbers_named (field_numbered tag)
 
 -- over the field that the sheet names, if it names one
 abbrev pub named_fault : Option Numbers → SheetParts → List ℕ → Option IssueFault

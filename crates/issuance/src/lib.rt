@@ -14,12 +14,13 @@ use faults::{CodeFault, CollectionFault, ListingFault, SheetFault};
 pub use issuing::issue_sheet;
 
 // What refuses to issue: the sheet, or the message.
-#[derive(Clone, Copy)]
+#[derive(Clone, Copy, PartialEq, Eq, Debug)]
 pub enum IssueFault {
     Sheet(SheetFault),
     Listing(ListingFault),
 }
 
+// The conversions are by hand: what a derive writes has no contract, and the contracts here name the fault that `?` makes.
 impl From<SheetFault> for IssueFault {
     ghost from_gives = { λ e r. r ≡ by_sheet e };
 
@@ -44,7 +45,7 @@ impl From<ListingFault> for IssueFault {
     }
 }
 
-// The code of a sheet, and the codeword of a message at the front of an array.
+// The code of a sheet, and the codeword of a message at the front of an array, as long as any code: fixed memory, without a heap.
 #[derive(Clone, Copy)]
 pub struct Issued {
     field: u8,
@@ -54,7 +55,7 @@ pub struct Issued {
 }
 
 // What one place is given.
-#[derive(Clone, Copy)]
+#[derive(Clone, Copy, PartialEq, Eq, Debug)]
 pub struct Share {
     place: usize,
     point: u16,

@@ -13,6 +13,7 @@ fn number(text: &str) -> u16 {
 // One line for the code, and one for each place.
 fn print_issued(rt: &impl Print, issued: &Issued) -> io::Result<()> {
     println!(rt; "{issued}")?;
+    // By place: there is no list of shares to go over, each is made when it is asked for.
     for place in 0..issued.count() {
         rt.println(issued.share(place))?;
     }
@@ -22,10 +23,10 @@ fn print_issued(rt: &impl Print, issued: &Issued) -> io::Result<()> {
 fn main(rt: HostRuntime) -> io::Result<()> {
     let mut bytes = Vec::new(rt.alloc());
     rt.stdin().read_to_end(&mut bytes)?;
-    let mut message = Vec::new(rt.alloc());
-    for word in env::args(&rt)?.skip(1) {
-        message.push(number(&word))?;
-    }
+    let message: Vec<u16> = env::args(&rt)?
+        .skip(1)
+        .map(|word| number(&word))
+        .collect(rt.alloc())?;
     match issue_sheet(&bytes, &message) {
         Ok(issued) => print_issued(&rt, &issued),
         Err(fault) => println!(rt; "{fault}"),

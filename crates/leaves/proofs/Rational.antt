@@ -142,11 +142,8 @@ module _ (F : Numbers) where
 
   -- the check of a pair that is cut past its coefficients
   pub cut_form : (ℓ n : ℕ) (Q : ℕ → ℕ → Element F) (f₁ f₂ : List ℕ) → Below (ring_of F) n (poly F f₁) → Below (ring_of F) n (poly F f₂)
-      → form (Poly (ring_of F)) ℓ Q (poly F (take (n - 0) f₂)) (poly F (take (n - 0) f₁)) ≡ form (Poly (ring_of F)) ℓ Q (poly F f₂) (poly F f₁)
-  cut_form ℓ n Q f₁ f₂ b₁ b₂ = ap₂ (form (Poly (ring_of F)) ℓ Q) (whole f₂ b₂) (whole f₁ b₁)
-    where
-      whole : (f : List ℕ) → Below (ring_of F) n (poly F f) → poly F (take (n - 0) f) ≡ poly F f
-      whole f b = ap (λ (j : ℕ). poly F (take j f)) (let e : n - 0 ≡ n = omega arith in e) ∙ cut_is n f b
+      → form (Poly (ring_of F)) ℓ Q (poly F (take n f₂)) (poly F (take n f₁)) ≡ form (Poly (ring_of F)) ℓ Q (poly F f₂) (poly F f₁)
+  cut_form ℓ n Q f₁ f₂ b₁ b₂ = ap₂ (form (Poly (ring_of F)) ℓ Q) (cut_is n f₂ b₂) (cut_is n f₁ b₁)
 
   pub constant_not : (f : List ℕ) → AllBelow F.q f → (get_or f 0 0 ≡ 0 → ⊥) → poly F f 0 ≡ elem F 0 → ⊥
   unfolding poly

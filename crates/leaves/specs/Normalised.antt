@@ -1,6 +1,5 @@
 -- A pair of polynomials made normal by a constant factor, in this order: the coefficient by which it is divided, and the pair after the division.
 use Rattle.std.specs.Prelude.{◌≡◌, ℕ, ◌<◌, ◌≢◌, ◌⊎◌, List}
-use Rattle.algebra.specs.Ring.{Ring}
 use Rattle.algebra.specs.Poly.{scale, pzero, Below, Degree}
 use Rattle.algebra.specs.Coprime.{Normal}
 use Rattle.fields.specs.Numbers.{Numbers, Element, elem, ring_of}

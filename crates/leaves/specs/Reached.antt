@@ -1,7 +1,6 @@
 -- What a leaf of the walk comes to, in this order: the pair of the row at which Euclid's algorithm stops, the same as a record, the root that it gives, the
 -- leaf's answer: the root, or nothing if there is none; and what that says without the rows, of the roots whose series begins with the digits.
 use Rattle.std.specs.Prelude.{◌≡◌, ℕ, suc, ◌+◌, ◌≢◌, List, length, Some, Option, MatchOption}
-use Rattle.algebra.specs.Ring.{Ring}
 use Rattle.algebra.specs.Poly.{conv, padd, pneg, Order}
 use Rattle.algebra.specs.Coprime.{Normal}
 use Rattle.decoding.specs.Rational.{Plain}

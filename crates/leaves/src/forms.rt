@@ -7,7 +7,9 @@ ghost use Rattle.algebra.specs.Taylor.{form};
 ghost use Rattle.fields.specs.Numbers.{AllBelow, elem, ring_of};
 ghost use Rattle.polynomials.specs.Series.{poly, Reads};
 ghost use Rattle.digits.specs.Runs.{runs as runs_of};
+ghost use Rattle.leaves.specs.Formed.{Formed};
 
+use super::questions::Question;
 use fields::Field;
 use polynomials::{add_multiple, multiply_into, size};
 
@@ -52,6 +54,7 @@ fn begin<F: Field>(run: &[u16], sum: &mut [u16], power: &mut [u16])
 }
 
 // The form with these runs of `width` numbers as its Q_0 to Q_degree, at the pair y, z, written to sum, and z^degree, written to power.
+// It takes runs and no question, since it goes on with the rest of them, to which no bounds belong.
 fn evaluate_form<F: Field>(
     runs: &[u16],
     width: usize,
@@ -96,28 +99,30 @@ fn evaluate_form<F: Field>(
     add_product::<F>(sum, power, &runs[0..width], room);
 }
 
-// Whether the form with these runs as its Q_0 to Q_degree vanishes at y = f2, z = f1.
-pub fn vanishes<F: Field>(
-    runs: &[u16],
-    width: usize,
-    degree: usize,
-    f1: &[u16],
-    f2: &[u16],
-    work: &mut [u16],
-) -> bool
-    requires all { AllBelow F.Field.numbers.q runs.now }
-    requires long { length runs.now ≡ (degree + 1) * width }
-    requires wide { 0 < width }
-    requires first { AllBelow F.Field.numbers.q f1.now }
-    requires second { AllBelow F.Field.numbers.q f2.now }
-    requires same { length f2.now ≡ length f1.now }
-    requires some { 0 < length f1.now }
-    requires work { 3 * (width + degree * (length f1.now - 1)) ≤ length work.old }
-    ensures { T result ↔ (form (Poly (ring_of F.Field.numbers)) degree (runs_of F.Field.numbers width runs.now) (poly F.Field.numbers f2.now) (poly F.Field.numbers f1.now) ≡ pzero (ring_of F.Field.numbers)) }
-{
-    let rise = degree * (f1.len() - 1);
-    let (sum, rest) = work.split_at_mut(width + rise);
-    let (power, room) = rest.split_at_mut(1 + rise);
-    evaluate_form::<F>(runs, width, degree, f2, f1, sum, power, room);
-    size::<F>(sum) == 0
+impl Question<'_> {
+    // Whether the form vanishes at y = f2, z = f1.
+    pub fn vanishes<F: Field>(self, f1: &[u16], f2: &[u16], work: &mut [u16]) -> bool
+        requires formed { Formed F.Field.numbers.q self }
+        requires first { AllBelow F.Field.numbers.q f1.now }
+        requires second { AllBelow F.Field.numbers.q f2.now }
+        requires same { length f2.now ≡ length f1.now }
+        requires some { 0 < length f1.now }
+        requires work { 3 * (self.length + self.degree * (length f1.now - 1)) ≤ length work.old }
+        ensures { T result ↔ (form (Poly (ring_of F.Field.numbers)) self.entry.degree (runs_of F.Field.numbers self.entry.length self.entry.form.now) (poly F.Field.numbers f2.now) (poly F.Field.numbers f1.now) ≡ pzero (ring_of F.Field.numbers)) }
+    {
+        let rise = self.degree * (f1.len() - 1);
+        let (sum, rest) = work.split_at_mut(self.length + rise);
+        let (power, room) = rest.split_at_mut(1 + rise);
+        evaluate_form::<F>(
+            self.form,
+            self.length,
+            self.degree,
+            f2,
+            f1,
+            sum,
+            power,
+            room,
+        );
+        size::<F>(sum) == 0
+    }
 }

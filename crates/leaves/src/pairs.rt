@@ -1,32 +1,29 @@
 // Pairs of polynomials as records, and their order.
 ghost use Rattle.std.specs.Prelude.{◌≡◌};
 ghost use Rattle.leaves.specs.Order.{in_order, arranged};
-ghost use Rattle.leaves.specs.Ordering.{pair_order};
+ghost use Rattle.leaves.specs.Ordering.{pairs_compare};
 
-use rolls::{Ordered, comes_before};
+use rolls::Ordered;
 
-// 32 coefficients of f1 and 32 of f2, the lowest first.
-#[derive(Clone, Copy)]
+// 32 coefficients of f1 and 32 of f2, the lowest first. Pairs are in dictionary order of f1, and then of f2.
+#[derive(Clone, Copy, PartialEq, Eq, PartialOrd, Ord)]
 pub struct Pair {
     pub first: [u16; 32],
     pub second: [u16; 32],
 }
 
-// Dictionary order of f1, and then of f2.
+impl Pair {
+    // What stands where there is no pair.
+    pub const BLANK: Pair = Pair {
+        first: [0; 32],
+        second: [0; 32],
+    };
+}
+
 impl Ordered for Pair {
     ghost less = { in_order };
 
-    ghost order = { pair_order };
-
-    fn precedes(&self, other: &Pair) -> bool {
-        if comes_before(&self.first, &other.first) {
-            return true;
-        }
-        if comes_before(&other.first, &self.first) {
-            return false;
-        }
-        comes_before(&self.second, &other.second)
-    }
+    ghost order = { pairs_compare };
 }
 
 // The charts of the walk: in the direct one the digits are those of f2 / f1, and in the turned one those of f1 / f2.

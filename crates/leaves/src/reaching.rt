@@ -7,29 +7,19 @@ ghost use Rattle.fields.specs.Numbers.{AllBelow, elem, ring_of};
 ghost use Rattle.polynomials.specs.Series.{poly, Reads};
 ghost use Rattle.basis.specs.Rows.{Room};
 ghost use Rattle.digits.specs.Runs.{runs as runs_of};
+ghost use Rattle.leaves.specs.Formed.{Formed};
 ghost use Rattle.leaves.specs.Normalised.{Normalised};
 ghost use Rattle.leaves.specs.Reached.{Reconstructs, Candidate, Full, Reached, Exact};
 
-use super::forms::vanishes;
 use super::normal::normalise;
 use super::pairs::{Chart, Pair};
-use basis::{Stop, rows};
+use super::questions::Question;
+use basis::{LastRows, Stop};
 use fields::Field;
-use polynomials::{clear, scale};
+use polynomials::{pad, scale};
 
 // More numbers than the longest series of digits has.
 const WIDTH: usize = 64;
-
-// p and zeros after it.
-fn pad<F: Field>(out: &mut [u16], p: &[u16])
-    requires all { AllBelow F.Field.numbers.q p.now }
-    requires room { length p.now ≤ length out.old }
-    ensures { Reads F.Field.numbers out.new (poly F.Field.numbers p.now) }
-{
-    clear::<F>(out);
-    let n = p.len();
-    out[0..n].copy_from_slice(p);
-}
 
 // The pair (-b, a) of the row (a, b) at which Euclid's algorithm stops: the first whose a has the degree w2 at most. The other areas have the series and the row before.
 fn reconstruct<F: Field>(
@@ -49,8 +39,14 @@ fn reconstruct<F: Field>(
     ensures { Reconstructs F.Field.numbers w1 w2 digits.now f1.new f2.new }
 {
     pad::<F>(s, digits);
-    rows::<F>(Stop::Short(w2 + 1), s, pa, pb, f2, f1);
-    scale::<F>(f1, F::neg(1));
+    let mut rows = LastRows {
+        pa,
+        pb,
+        la: f2,
+        lb: f1,
+    };
+    rows.find::<F>(Stop::Short(w2 + 1), s);
+    scale::<F>(rows.lb, F::neg(1));
 }
 
 // The first n numbers of p, which has no further coefficients, and zeros after them.
@@ -63,7 +59,7 @@ fn front<F: Field>(p: &[u16], n: usize) -> [u16; 32]
     ensures is { Reads F.Field.numbers result (poly F.Field.numbers p.now) }
 {
     let mut out = [0; 32];
-    pad::<F>(&mut out, &p[0..n]);
+    pad::<F>(&mut out, &p[..n]);
     out
 }
 
@@ -96,32 +92,6 @@ fn candidate<F: Field>(digits: &[u16], w1: usize, w2: usize) -> Pair
     Pair { first, second }
 }
 
-// Whether f1 has a constant coefficient and the form vanishes at the pair, whose polynomials have n coefficients.
-fn is_root<F: Field>(
-    runs: &[u16],
-    width: usize,
-    degree: usize,
-    f1: &[u16],
-    f2: &[u16],
-    n: usize,
-    work: &mut [u16],
-) -> bool
-    requires all { AllBelow F.Field.numbers.q runs.now }
-    requires long { length runs.now ≡ (degree + 1) * width }
-    requires wide { 0 < width }
-    requires first { AllBelow F.Field.numbers.q f1.now }
-    requires second { AllBelow F.Field.numbers.q f2.now }
-    requires some { 0 < n }
-    requires first_long { n ≤ length f1.now }
-    requires second_long { n ≤ length f2.now }
-    requires first_small { Below (ring_of F.Field.numbers) n (poly F.Field.numbers f1.now) }
-    requires second_small { Below (ring_of F.Field.numbers) n (poly F.Field.numbers f2.now) }
-    requires work { 3 * (width + degree * (n - 1)) ≤ length work.old }
-    ensures { T result ↔ ((poly F.Field.numbers f1.now 0 ≢ elem F.Field.numbers 0) × (form (Poly (ring_of F.Field.numbers)) degree (runs_of F.Field.numbers width runs.now) (poly F.Field.numbers f2.now) (poly F.Field.numbers f1.now) ≡ pzero (ring_of F.Field.numbers))) }
-{
-    f1[0] != 0 && vanishes::<F>(runs, width, degree, &f1[0..n], &f2[0..n], work)
-}
-
 // The pair divided by the constant that makes it normal.
 fn normal_pair<F: Field>(pair: Pair) -> Pair
     requires full { Full F.Field.numbers.q pair }
@@ -135,33 +105,45 @@ fn normal_pair<F: Field>(pair: Pair) -> Pair
     Pair { first, second }
 }
 
-// The root of the form with these runs as its Q_0 to Q_degree whose series begins with the digits, or nothing if there is none.
-pub fn root_at_leaf<F: Field>(
-    chart: Chart,
-    digits: &[u16],
-    w1: usize,
-    w2: usize,
-    runs: &[u16],
-    width: usize,
-    degree: usize,
-    work: &mut [u16],
-) -> Option<Pair>
-    requires digits { AllBelow F.Field.numbers.q digits.now }
-    requires depth { length digits.now ≡ suc (w1 + w2) }
-    requires first { w1 < 32 }
-    requires second { w2 < 32 }
-    requires all { AllBelow F.Field.numbers.q runs.now }
-    requires long { length runs.now ≡ (degree + 1) * width }
-    requires wide { 0 < width }
-    requires work { 3 * (width + degree * 31) ≤ length work.old }
-    ensures leaf { Reached F.Field.numbers chart degree w1 w2 (runs_of F.Field.numbers width runs.now) digits.now result }
-    ensures exact { Exact F.Field.numbers chart degree w1 w2 (runs_of F.Field.numbers width runs.now) digits.now result }
-{
-    let pair = candidate::<F>(digits, w1, w2);
-    let n = w1.max(w2) + 1;
-    if is_root::<F>(runs, width, degree, &pair.first, &pair.second, n, work) {
-        Some(normal_pair::<F>(chart.arrange(pair)))
-    } else {
-        None
+impl Question<'_> {
+    // Whether f1 has a constant coefficient and the form vanishes at the pair, whose polynomials have n coefficients.
+    fn is_root<F: Field>(self, f1: &[u16], f2: &[u16], n: usize, work: &mut [u16]) -> bool
+        requires formed { Formed F.Field.numbers.q self }
+        requires first { AllBelow F.Field.numbers.q f1.now }
+        requires second { AllBelow F.Field.numbers.q f2.now }
+        requires some { 0 < n }
+        requires first_long { n ≤ length f1.now }
+        requires second_long { n ≤ length f2.now }
+        requires first_small { Below (ring_of F.Field.numbers) n (poly F.Field.numbers f1.now) }
+        requires second_small { Below (ring_of F.Field.numbers) n (poly F.Field.numbers f2.now) }
+        requires work { 3 * (self.length + self.degree * (n - 1)) ≤ length work.old }
+        ensures { T result ↔ ((poly F.Field.numbers f1.now 0 ≢ elem F.Field.numbers 0) × (form (Poly (ring_of F.Field.numbers)) self.entry.degree (runs_of F.Field.numbers self.entry.length self.entry.form.now) (poly F.Field.numbers f2.now) (poly F.Field.numbers f1.now) ≡ pzero (ring_of F.Field.numbers))) }
+    {
+        f1[0] != 0 && self.vanishes::<F>(&f1[..n], &f2[..n], work)
+    }
+
+    // The root of the form whose series begins with the digits, or nothing if there is none.
+    pub fn root_at_leaf<F: Field>(
+        self,
+        chart: Chart,
+        digits: &[u16],
+        work: &mut [u16],
+    ) -> Option<Pair>
+        requires formed { Formed F.Field.numbers.q self }
+        requires digits { AllBelow F.Field.numbers.q digits.now }
+        requires depth { length digits.now ≡ suc (self.w1 + self.w2) }
+        requires first { self.w1 < 32 }
+        requires second { self.w2 < 32 }
+        requires work { 3 * (self.length + self.degree * 31) ≤ length work.old }
+        ensures leaf { Reached F.Field.numbers chart self.entry.degree self.entry.w1 self.entry.w2 (runs_of F.Field.numbers self.entry.length self.entry.form.now) digits.now result }
+        ensures exact { Exact F.Field.numbers chart self.entry.degree self.entry.w1 self.entry.w2 (runs_of F.Field.numbers self.entry.length self.entry.form.now) digits.now result }
+    {
+        let pair = candidate::<F>(digits, self.w1, self.w2);
+        let n = self.w1.max(self.w2) + 1;
+        if self.is_root::<F>(&pair.first, &pair.second, n, work) {
+            Some(normal_pair::<F>(chart.arrange(pair)))
+        } else {
+            None
+        }
     }
 }

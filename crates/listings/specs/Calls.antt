@@ -9,14 +9,14 @@ use Rattle.codes.specs.First.{or_else, when}
 use Rattle.codes.specs.Opening.{Given}
 use Rattle.collections.specs.Book.{Book, unopened, opened}
 use Rattle.gathering.specs.Shares.{numbers, gathering_fault}
-use Rattle.interpolating.specs.Interpolation.{work_of}
+use Rattle.interpolating.specs.Interpolation.{room_fault}
 use Rattle.candidates.specs.declared.records.Candidate.{Candidate}
 use Rattle.candidates.specs.Telling.{blank}
 use Rattle.listings.specs.Listing.{Listing}
 
 -- 10, then 11, for a result area of m records and a work area of w numbers
 abbrev pub area_fault : ℕ → Setting → ℕ → ℕ → Option ListingFault
-area_fault n x m w = or_else (when (nat_lt m x.list_limit) (ResultArea m)) (when (nat_lt w (work_of n x)) (WorkArea w))
+area_fault n x m w = room_fault n x x.list_limit m w
 
 -- 20, then 9, 24 and 8, then 10 and 11
 abbrev pub listing_fault : ℕ → Book → List (Option ℕ) → ℕ → ℕ → Option ListingFault

@@ -1,5 +1,5 @@
 -- The sizes of the interpolant of an accepted setting: its roots can be asked for, and the work area has room for it and for all that finds it and its roots.
-use Rattle.std.proofs.Common.{◌≡◌, ℕ, zero, suc, ◌+◌, ◌-◌, ◌*◌, ◌<◌, ◌≤◌, Bool, true, false, cond, eqb, List, [], ◌∷◌, get_or, refl, ap, ◌∙◌, arith, eqb-true}
+use Rattle.std.proofs.Common.{◌&&◌, ◌≡◌, ℕ, zero, suc, ◌+◌, ◌-◌, ◌*◌, ◌<◌, ◌≤◌, Bool, true, false, cond, eqb, List, [], ◌∷◌, get_or, refl, ap, ◌∙◌, arith, eqb-true}
 use native.Mathlib.Decide.{dec_lt}
 use Rattle.std.proofs.lemmas.Nat.{mul-le}
 use Rattle.decoding.specs.Setting.{Accepted}
@@ -20,7 +20,7 @@ zero_at : (xs : List ℕ) → all_zero xs ≡ true → (i : ℕ) → get_or xs i
 zero_at [] e i = refl
 zero_at (x ∷ xs) e i = go (λ f. zero_at xs f) (eqb x 0) refl e i
   where
-    go : (all_zero xs ≡ true → (i : ℕ) → get_or xs i 0 ≡ 0) → (b : Bool) → eqb x 0 ≡ b → cond b (all_zero xs) false ≡ true → (i : ℕ) → get_or (x ∷ xs) i 0 ≡ 0
+    go : (all_zero xs ≡ true → (i : ℕ) → get_or xs i 0 ≡ 0) → (b : Bool) → eqb x 0 ≡ b → (b && all_zero xs) ≡ true → (i : ℕ) → get_or (x ∷ xs) i 0 ≡ 0
     go more true t f zero = eqb-true x 0 t
     go more true t f (suc i) = more f i
     go more false t f i = absurd (let z : ◌≡◌ {A = ℕ} 0 1 = cc in omega arith)

@@ -1,8 +1,7 @@
 -- Pairs of lists that stand for pairs of polynomials: the pair (0, 1), and the listed roots of a form, which are all of them.
-use Rattle.std.proofs.Common.{◌≡◌, ℕ, zero, suc, ◌+◌, ◌-◌, ◌*◌, ◌<◌, ◌≤◌, ◌↔◌, List, [], ◌∷◌, length, get_or, take, drop, set, replicate, sym, refl, ap, ◌∙◌, subst, subst₂, inl, inr, suc-mul, zero-mul, arith}
+use Rattle.std.proofs.Common.{◌≡◌, ℕ, zero, suc, ◌+◌, ◌*◌, ◌<◌, ◌≤◌, ◌↔◌, List, [], ◌∷◌, length, get_or, take, drop, set, replicate, sym, refl, ap, ◌∙◌, subst, subst₂, inl, inr, suc-mul, zero-mul, arith}
 use mathlib.Core.Path.{fun_ext}
 use native.Mathlib.Decide.{dec_lt}
-use native.Mathlib.Nat.{sub-zero}
 use lib.ListN.{length-replicate}
 use Rattle.std.proofs.lemmas.List.{get_or-replicate, drop-drop}
 use Rattle.algebra.specs.Poly.{pzero, const, Below}
@@ -21,10 +20,6 @@ use Rattle.candidates.specs.Sifting.{OneOf}
 use Rattle.roots.specs.Asked.{Asked}
 use Rattle.roots.specs.Answer.{form_of, IsRoot}
 use Rattle.pairs.specs.Stage.{unit_pair}
-
--- the part of a list from its start, as a program writes it
-pub front : {X : Type 0} (d : ℕ) (xs ys : List X) → take d xs ≡ ys → take (d - 0) xs ≡ ys
-front d xs ys e = ap (λ (n : ℕ). take n xs) (sub-zero d) ∙ e
 
 -- a list whose first pair was written begins with it
 pub first_written : (pairs : List Pair) (p : Pair) → 0 < length pairs → take 1 (set pairs 0 p) ≡ p ∷ []

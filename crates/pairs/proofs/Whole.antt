@@ -5,17 +5,17 @@ use Rattle.fields.specs.Numbers.{Numbers}
 use Rattle.codes.specs.declared.Setting.{Setting}
 use Rattle.leaves.specs.declared.pairs.Pair.{Pair}
 use Rattle.candidates.specs.declared.records.Candidate.{Candidate}
-use Rattle.candidates.specs.Sifting.{Ready, ListsNear}
+use Rattle.candidates.specs.Sifting.{Roomy, ListsNear}
 use Rattle.pairs.specs.Stage.{h11, h21, Listable, ToSift, AllNear}
-use Rattle.interpolating.proofs.Bounds.{h11_below, h21_below, h11_length, h21_length}
+use Rattle.interpolating.proofs.Bounds.{h11_length, h21_length}
 use Rattle.stages.specs.Basis.{basis}
 use Rattle.stages.proofs.Syndrome.{syndrome_length}
 use Rattle.pairs.proofs.Rows.{code_reads}
 
--- the sift has all that it asks for
-pub ready : (F : Numbers) (αs vs : List ℕ) (k : ℕ) (rs : List ℕ) (x : Setting) → Listable F αs vs k rs x → (room : ℕ) → 32000 ≤ room
-    → Ready F αs vs rs (h11 F αs vs k rs) (h21 F αs vs k rs) k room
-ready F αs vs k rs x given room l =
+-- the sift has room
+pub roomy : (F : Numbers) (αs vs : List ℕ) (k : ℕ) (rs : List ℕ) (x : Setting) → Listable F αs vs k rs x → (room : ℕ) → 32000 ≤ room
+    → Roomy (length αs) k (length (h11 F αs vs k rs)) (length (h21 F αs vs k rs)) room
+roomy F αs vs k rs x given room l =
     let p = given.placed in
     let few = given.few in
     let fewer = given.accepted.fewer in
@@ -23,15 +23,7 @@ ready F αs vs k rs x given room l =
     unfold basis in syndrome_length F αs vs p.points p.multipliers (length αs - k) rs p.shares in
     let a = h11_length F αs vs k rs p.points p.multipliers p.shares in
     let b = h21_length F αs vs k rs p.points p.multipliers p.shares in
-    record {
-      placed = p;
-      few = few;
-      fewer = fewer;
-      first_row = h11_below F αs vs k rs p.points p.multipliers p.shares;
-      second_row = h21_below F αs vs k rs p.points p.multipliers p.shares;
-      fits = omega arith;
-      fits_too = omega arith;
-    }
+    record { few = few; fewer = fewer; fits = omega arith; fits_too = omega arith }
 
 pub all_near : (F : Numbers) (αs vs : List ℕ) (k : ℕ) (rs : List ℕ) (x : Setting) → Listable F αs vs k rs x → (pairs : List Pair) (items : List Candidate)
     → ToSift F αs vs k rs x pairs → ListsNear F αs vs rs (h11 F αs vs k rs) (h21 F αs vs k rs) k x.radius pairs items → AllNear F αs vs k rs x.radius items

@@ -12,8 +12,8 @@ use fields::Field;
 use interpolant::{Shape, interpolate_basis};
 use interpolating::shape;
 use leaves::Pair;
+use received::Received;
 use roots::{Question, list_roots};
-use sift::Received;
 
 // The pair f1 = 0, f2 = 1: its locator is h21 itself.
 fn unit_pair() -> Pair
@@ -45,7 +45,7 @@ fn interpolate_roots<F: Field>(
     let count = shape.degree + 1;
     let (form, rest) = work.split_at_mut(count * shape.bound);
     let mut ranks = [0; 9];
-    interpolate_basis::<F>(shape, points, h11, h21, form, rest, &mut ranks[0..count]);
+    interpolate_basis::<F>(shape, points, h11, h21, form, rest, &mut ranks[..count]);
     let question = Question {
         form,
         degree: shape.degree,
@@ -59,19 +59,19 @@ fn interpolate_roots<F: Field>(
 // Writes the pairs of the basis to the front of the area, and answers how many there are: none where w2 is negative, since then no codeword is within the
 // radius, the pair (0, 1) where w1 is, and else the roots of an interpolant.
 pub fn find_pairs<F: Field>(
-    received: Received<'_>,
+    received: &Received<'_, F>,
     threshold: usize,
     setting: Setting,
     basis: &Basis,
     pairs: &mut [Pair],
     work: &mut [u16],
 ) -> usize
-    requires given { Listable F.Field.numbers received.points.now received.multipliers.now threshold received.shares.now setting }
-    requires found { Finds (basis_of F.Field.numbers received.points.now received.multipliers.now threshold received.shares.now) setting.radius basis.now }
+    requires given { Listable F.Field.numbers received.now.points.now received.now.multipliers.now threshold received.now.shares.now setting }
+    requires found { Finds (basis_of F.Field.numbers received.now.points.now received.now.multipliers.now threshold received.now.shares.now) setting.radius basis.now }
     requires records { setting.list_limit ≤ length pairs.old }
     requires numbers { 32000 ≤ length work.old }
     ensures count { result ≤ setting.list_limit }
-    ensures pairs { ToSift F.Field.numbers received.entry.points.now received.entry.multipliers.now threshold received.entry.shares.now setting (take result pairs.new) }
+    ensures pairs { ToSift F.Field.numbers received.now.points.now received.now.multipliers.now threshold received.now.shares.now setting (take result pairs.new) }
 {
     if basis.w2 < 0 {
         return 0;
@@ -83,8 +83,8 @@ pub fn find_pairs<F: Field>(
     interpolate_roots::<F>(
         shape(setting, basis.w1, basis.w2),
         received.points,
-        &basis.h11[0..basis.d],
-        &basis.h21[0..basis.d],
+        &basis.h11[..basis.d],
+        &basis.h21[..basis.d],
         pairs,
         work,
     )

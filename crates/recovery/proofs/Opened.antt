@@ -1,27 +1,19 @@
 -- What an open collection and the shares of a source give the stages: all that they ask for.
-use Rattle.std.proofs.Common.{◌≡◌, ℕ, ◌≤◌, Bool, true, false, cond, ltb, List, length, None, sym, subst, arith, ltb-false}
+use Rattle.std.proofs.Common.{◌≡◌, ℕ, List, length, Some, None, sym, subst, arith}
 use Rattle.fields.specs.Numbers.{Numbers, AllBelow}
-use Rattle.faults.specs.declared.ListingFault.TheVariants.{ResultArea, WorkArea}
-use Rattle.codes.specs.declared.Setting.{Setting}
-use Rattle.codes.specs.First.{when}
-use Rattle.codes.specs.Settings.{small}
 use Rattle.codes.specs.Opening.{Given, first_fault}
-use Rattle.codes.proofs.Firsts.{when_none, or_else_none}
 use Rattle.codes.specs.Exact.{Fit}
 use Rattle.codes.proofs.Exactly.{opens_exactly}
 use Rattle.collections.specs.Book.{Fair}
-use Rattle.collections.specs.Standing.{given_of, page, Sound}
+use Rattle.collections.proofs.Booked.{on_page}
+use Rattle.collections.specs.Standing.{given_of, opened_in, Sound}
 use Rattle.collections.specs.declared.Kept.{Kept}
 use Rattle.collections.specs.declared.Opened.{Opened}
-use Rattle.collections.specs.declared.State.{State}
-use Rattle.collections.specs.declared.State.TheVariants.{Open}
 use Rattle.sift.specs.Received.{Placed}
-use Rattle.interpolating.specs.Interpolation.{work_of}
-use Rattle.listings.specs.Calls.{area_fault}
 use Rattle.pairs.specs.Stage.{Listable}
 
-pub passed : (q : ℕ) (K : Kept) (o : Opened) → K.state ≡ Open o → Sound q K → first_fault q (given_of o) ≡ None
-passed q K o e s = (subst (λ (t : State). Fair q (page t K.places.at)) e s.1).passed
+pub passed : (q : ℕ) (K : Kept) (o : Opened) → opened_in K.page ≡ Some o → Sound q K → first_fault q (given_of o) ≡ None
+passed q K o e s = (subst (Fair q) (on_page K.page o e) s.1).passed
 
 pub placed : (F : Numbers) (g : Given) (rs : List ℕ) → Fit F.q g → AllBelow F.q rs → length rs ≡ length g.points → Placed F g.points g.multipliers rs
 placed F g rs f below long =
@@ -44,16 +36,3 @@ listable F g rs αs vs k a b t e below long =
     (subst (λ (z : List ℕ). Listable F g.points z k rs g.setting) (sym b)
     (subst (λ (z : ℕ). Listable F g.points g.multipliers z rs g.setting) (sym t)
     (record { placed = placed F g rs f below long; few = f.code.places.1; accepted = f.setting })))
-
-least_work : (t : Bool) → 32000 ≤ cond t 32000 400000
-least_work true = omega arith
-least_work false = omega arith
-
--- areas that pass their check are long enough
-pub roomy : (n : ℕ) (x : Setting) (m w : ℕ) → None ≡ area_fault n x m w → (x.list_limit ≤ m) × (32000 ≤ w)
-roomy n x m w e =
-    let (u, v) = or_else_none (when (ltb m x.list_limit) (ResultArea m)) (when (ltb w (work_of n x)) (WorkArea w)) (sym e) in
-    let a = ltb-false m x.list_limit (when_none (ltb m x.list_limit) (ResultArea m) u) in
-    let b = ltb-false w (work_of n x) (when_none (ltb w (work_of n x)) (WorkArea w) v) in
-    let c = least_work (small n x.multiplicity) in
-    (a, omega arith)

@@ -1,35 +1,18 @@
--- The loop that writes blanks beyond the items.
-use Rattle.std.proofs.Common.{◌≡◌, ℕ, ◌+◌, ◌-◌, ◌<◌, ◌≤◌, List, [], ◌∷◌, ◌++◌, length, get_or, take, drop, set, replicate, sym, ap, ◌∙◌, append_assoc, arith}
-use Rattle.std.proofs.lemmas.List.{drop_more, drop_all, take-append-drop, append-nil, length-append, length-replicate, length-take-le, replicate_more, set_at}
+-- The slots beyond the items, filled by calls that give one value.
+use Rattle.std.proofs.Common.{◌≡◌, ℕ, ◌+◌, ◌-◌, ◌≤◌, List, [], ◌∷◌, ◌++◌, length, take, replicate, refl, ap, ap₂, ◌∙◌, subst, arith}
+use Rattle.std.specs.List.{FoldsTo}
+use borrow.Rule.Slice.PartMut.{put_mid, Post-is}
+use Rattle.std.proofs.lemmas.List.{append-nil, drop_all}
 use Rattle.rolls.specs.Insertion.{cleared}
 
-module _ {X : Type 0} (blank : X) where
-  -- blanks from n to i
-  abbrev pub cleared_to : ℕ → ℕ → List X → List X
-  cleared_to n i s = (take n s ++ replicate (i - n) blank) ++ drop i s
+pub all_blank : {X P : Type 0} (blank : X) (step : P → X → P → Type 0) (p : P) (xs : List X) (last : P) → FoldsTo step p xs last → ((x : X) (q : P) → step p x q → (x ≡ blank) × (q ≡ p)) → xs ≡ replicate (length xs) blank
+all_blank blank step p [] last f told = refl
+all_blank blank step p (x ∷ xs) last f told =
+    let t = told x f.0 f.1 in
+    ap₂ (λ y ys. y ∷ ys) t.0 (all_blank blank step p xs last (subst (λ q. FoldsTo step q xs last) t.1 f.2) told)
 
-  pub cleared_none : (n : ℕ) (s : List X) → s ≡ cleared_to n n s
-  cleared_none n s =
-      let z : n - n ≡ 0 = omega arith in
-      sym (ap (λ (m : ℕ). (take n s ++ replicate m blank) ++ drop n s) z ∙ ap (λ (l : List X). l ++ drop n s) (append-nil (take n s)) ∙ take-append-drop n s)
-
-  pub cleared_more : (n i : ℕ) (s t : List X) → n ≤ i → i < length s → t ≡ cleared_to n i s → set t i blank ≡ cleared_to n (i + 1) s
-  cleared_more n i s t le lt e =
-      let long : length (take n s ++ replicate (i - n) blank) ≡ i =
-      length-append (take n s) (replicate (i - n) blank)
-      ∙ (let q : length (take n s) + length (replicate (i - n) blank) ≡ i = omega (arith, length-take-le n s (omega arith), length-replicate (i - n) blank) in q) in
-      let next : i - n + 1 ≡ i + 1 - n = omega arith in
-      ap (λ (l : List X). set l i blank) e
-      ∙ ap (λ (l : List X). set ((take n s ++ replicate (i - n) blank) ++ l) i blank) (drop_more s i blank lt)
-      ∙ set_at (take n s ++ replicate (i - n) blank) (get_or s i blank) (drop (i + 1) s) blank i long
-      ∙ sym (append_assoc (take n s ++ replicate (i - n) blank) (blank ∷ []) (drop (i + 1) s))
-      ∙ ap (λ (l : List X). l ++ drop (i + 1) s) (append_assoc (take n s) (replicate (i - n) blank) (blank ∷ []))
-      ∙ ap (λ (l : List X). (take n s ++ l) ++ drop (i + 1) s) (replicate_more (i - n) blank)
-      ∙ ap (λ (m : ℕ). (take n s ++ replicate m blank) ++ drop (i + 1) s) next
-
-  pub cleared_all : (n i : ℕ) (s t : List X) → i ≡ length s → t ≡ cleared_to n i s → t ≡ cleared blank n s
-  cleared_all n i s t h e =
-      e
-      ∙ ap (λ (l : List X). (take n s ++ replicate (i - n) blank) ++ l) (drop_all i s (omega arith))
-      ∙ append-nil (take n s ++ replicate (i - n) blank)
-      ∙ ap (λ (m : ℕ). take n s ++ replicate (m - n) blank) h
+pub closes : {X : Type 0} (blank : X) (n : ℕ) (slots ys : List X) → n ≤ length slots → ys ≡ replicate (length ys) blank → length ys ≡ length slots - n → put_mid n (length slots - n) slots ys ≡ cleared blank n slots
+closes blank n slots ys h e l =
+    let whole : n + (length slots - n) ≡ length slots = omega arith in
+    ap (λ zs. take n slots ++ (ys ++ zs)) (Post-is n (length slots) slots (omega arith) ∙ drop_all (length slots) slots (omega arith))
+    ∙ ap (λ zs. take n slots ++ zs) (append-nil ys ∙ e ∙ ap (λ m. replicate m blank) l)

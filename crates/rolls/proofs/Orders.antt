@@ -1,6 +1,13 @@
 -- Total orders that records are built from: numbers, dictionary order, one order after another, and the order of a key.
-use Rattle.std.proofs.Common.{◌≡◌, ℕ, Bool, true, false, ltb, List, [], ◌∷◌, sym, refl, ap, ◌∙◌, arith, ltb-false, ltb-true, le-ltb, lt-ltb}
-use Rattle.rolls.specs.Order.{TotalOrder, before, dictionary}
+use Rattle.std.proofs.Common.{◌≡◌, ℕ, Bool, true, false, ltb, List, [], ◌∷◌, Some, Option, sym, refl, ap, ◌∙◌, arith, ltb-false, ltb-true, le-ltb, lt-ltb}
+use Rattle.std.specs.declared.cmp.Ordering.{Ordering}
+use Rattle.std.specs.Cmp.{IsTotalOrder}
+use Rattle.std.specs.Cmp.Lexicographic.{slice_cmp}
+use Rattle.std.specs.Ordering.{is_lt, is_gt, is_some_and, nat_cmp, ordering_reverse, ordering_then, partial_lt}
+use Rattle.std.specs.declared.cmp.Ordering.TheVariants.{Less, Equal, Greater}
+use Rattle.std.proofs.lemmas.Bool.Decides.{nat_tests}
+use Rattle.std.proofs.lemmas.Cmp.{same_from_slice_cmp}
+use Rattle.rolls.specs.Order.{TotalOrder, Compares, before, dictionary}
 
 pub ltb_total : TotalOrder ltb
 ltb_total =
@@ -97,3 +104,46 @@ dictionary_one (x ∷ xs) (y ∷ ys) p q =
 pub dictionary_total : TotalOrder dictionary
 dictionary_total =
     record { irreflexive = dictionary_irreflexive; transitive = dictionary_transitive; total = dictionary_one }
+
+-- a type's `<` is the order that its `cmp` goes by
+pub goes_by : {X : Type 0} {cmp : X → X → Ordering} {partial-cmp : X → X → Option Ordering} {less : X → X → Bool} → Compares cmp less → ((x y : X) → partial-cmp x y ≡ Some (cmp x y)) → ◌≡◌ {A = X → X → Bool} (partial_lt partial-cmp) less
+goes_by c a = λ i x y. (ap (is_some_and is_lt) (a x y) ∙ c.same x y) i
+
+number_same : (x y : ℕ) → is_lt (nat_cmp x y) ≡ ltb x y
+number_same x y = grind (arith, nat_tests)
+
+-- `cmp` of numbers goes by `<`
+pub numbers_compare : Compares nat_cmp ltb
+numbers_compare = record { same = number_same; order = ltb_total }
+
+dictionary_same : (xs ys : List ℕ) → is_lt (slice_cmp nat_cmp xs ys) ≡ dictionary xs ys
+dictionary_same xs ys =
+    same_from_slice_cmp nat_cmp is_lt dictionary refl (λ _ _. refl) (λ _ _. refl) (λ x y xs ys o h. grind (arith, nat_tests)) xs ys (slice_cmp nat_cmp xs ys) refl
+
+-- `cmp` of lists of numbers goes by dictionary order
+pub dictionary_compares : Compares (slice_cmp nat_cmp) dictionary
+dictionary_compares = record { same = dictionary_same; order = dictionary_total }
+
+then_before : (r s : Ordering) → is_lt (ordering_then r s) ≡ before (is_lt r) (is_gt r) (is_lt s)
+then_before Less s = refl
+then_before Equal s = refl
+then_before Greater s = refl
+
+back : (r : Ordering) → is_gt (ordering_reverse r) ≡ is_lt r
+back Less = refl
+back Equal = refl
+back Greater = refl
+
+-- `cmp` of two parts, the first and then the second, goes by their orders in turn
+pub in_turn_compares : {X Y Z : Type 0} {cmp : X → X → Ordering} {less : X → X → Bool} {cmp' : Y → Y → Ordering} {next : Y → Y → Bool} → IsTotalOrder cmp → Compares cmp less → Compares cmp' next → (first : Z → X) (second : Z → Y) → ((a b : Z) → first a ≡ first b → second a ≡ second b → a ≡ b) → Compares (λ a b. ordering_then (cmp (first a) (first b)) (cmp' (second a) (second b))) (λ a b. before (less (first a) (first b)) (less (first b) (first a)) (next (second a) (second b)))
+in_turn_compares {cmp = cmp} {cmp' = cmp'} o c n first second one =
+    record {
+      same = λ a b.
+          let r = cmp (first a) (first b) in
+          let s = cmp' (second a) (second b) in
+          let behind = ap is_gt (o.antisymm (first a) (first b)) ∙ back (cmp (first b) (first a)) ∙ c.same (first b) (first a) in
+          let ahead = c.same (first a) (first b) in
+          let after = n.same (second a) (second b) in
+          then_before r s ∙ (λ i. before (ahead i) (behind i) (after i));
+      order = in_turn_total c.order n.order first second one;
+    }

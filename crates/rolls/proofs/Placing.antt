@@ -1,41 +1,41 @@
 -- Where an item goes, and what an insertion there leaves.
-use Rattle.std.proofs.Common.{◌≡◌, ℕ, suc, ◌+◌, ◌-◌, ◌<◌, ◌≤◌, Bool, true, false, cond, eqb, ltb, List, [], ◌∷◌, ◌++◌, length, get_or, take, drop, set, Ok, Err, Result, sym, refl, ap, ◌∙◌, subst, le_of_suc-le-suc, not-suc-le-zero, arith, length-drop, length-take, le-ltb, lt-ltb, eq-eqb, ne_eqb}
+use Rattle.std.proofs.Common.{◌≡◌, ℕ, suc, ◌+◌, ◌-◌, ◌<◌, ◌≤◌, Bool, true, false, cond, eqb, ltb, List, [], ◌∷◌, ◌++◌, length, get_or, take, drop, set, Ok, Err, Result, sym, refl, ap, ◌∙◌, subst, not-suc-le-zero, arith, length-drop, length-take, le-ltb, lt-ltb, eq-eqb, ne_eqb}
 use borrow.Rule.Slice.PartMut.{put_mid, post_of, Post-is}
-use Rattle.std.proofs.lemmas.List.{drop_more, get_or_default, get_or-take, take-take, drop-take, length-append, length-take-le, take-append-drop, append_assoc}
+use Rattle.std.proofs.lemmas.List.{get_or_default, get_or-take, take-take, drop-take, length-append, length-take-le, take-append-drop, append_assoc}
+use Rattle.std.specs.List.{prefix_len}
 use Rattle.rolls.specs.declared.slots.RollFault.{RollFault}
 use Rattle.rolls.specs.declared.slots.RollFault.TheVariants.{Full}
 use Rattle.rolls.specs.Order.{insert}
-use Rattle.rolls.specs.Insertion.{below, entered, over, Inserted}
+use Rattle.rolls.specs.Insertion.{entered, over, Inserted}
 
 module _ {X : Type 0} (less : X → X → Bool) (x : X) where
-  pub below_next : (ys : List X) (i : ℕ) (d : X) → i < length ys → less (get_or ys i d) x ≡ true → below less x (drop i ys) ≡ suc (below less x (drop (i + 1) ys))
-  below_next ys i d h e =
-      ap (below less x) (drop_more ys i d h)
-      ∙ ap (λ (b : Bool). cond b (suc (below less x (drop (i + 1) ys))) 0) e
+  -- the items before x, from the first on
+  abbrev below : List X → ℕ
+  below ys = prefix_len (λ y. less y x) ys
 
-  pub below_stop : (ys : List X) (i : ℕ) (d : X) → i < length ys → less (get_or ys i d) x ≡ false → below less x (drop i ys) ≡ 0
-  below_stop ys i d h e =
-      ap (below less x) (drop_more ys i d h)
-      ∙ ap (λ (b : Bool). cond b (suc (below less x (drop (i + 1) ys))) 0) e
+  next : (n : ℕ) → 1 + n ≡ suc n
+  next n = omega arith
 
   -- x stands in the list already
-  pub known : (ys : List X) (d : X) → below less x ys < length ys → less x (get_or ys (below less x ys) d) ≡ false → insert less x ys ≡ ys
+  pub known : (ys : List X) (d : X) → below ys < length ys → less x (get_or ys (below ys) d) ≡ false → insert less x ys ≡ ys
   known [] d h e = absurd (not-suc-le-zero h)
   known (y ∷ ys) d h e =
       (elim (less y x)
-      as (λ b. cond b (suc (below less x ys)) 0 < suc (length ys) → less x (get_or (y ∷ ys) (cond b (suc (below less x ys)) 0) d) ≡ false → cond b (y ∷ insert less x ys) (cond (less x y) (x ∷ y ∷ ys) (y ∷ ys)) ≡ y ∷ ys) [
-        | true ↦ λ k f. ap (λ (l : List X). y ∷ l) (known ys d (le_of_suc-le-suc k) f)
+      as (λ b. cond b (1 + below ys) 0 < suc (length ys) → less x (get_or (y ∷ ys) (cond b (1 + below ys) 0) d) ≡ false → cond b (y ∷ insert less x ys) (cond (less x y) (x ∷ y ∷ ys) (y ∷ ys)) ≡ y ∷ ys) [
+        | true ↦ λ k f. ap (λ (l : List X). y ∷ l) (known ys d (let q : below ys < length ys = omega arith in q) (subst (λ (m : ℕ). less x (get_or (y ∷ ys) m d) ≡ false) (next (below ys)) f))
         | false ↦ λ k f. ap (λ (b : Bool). cond b (x ∷ y ∷ ys) (y ∷ ys)) f
       ])
       h e
 
   -- x is new, and stands where the items under it end
-  pub new : (ys : List X) (d : X) → (below less x ys < length ys → less x (get_or ys (below less x ys) d) ≡ true) → insert less x ys ≡ take (below less x ys) ys ++ x ∷ drop (below less x ys) ys
+  pub new : (ys : List X) (d : X) → (below ys < length ys → less x (get_or ys (below ys) d) ≡ true) → insert less x ys ≡ take (below ys) ys ++ x ∷ drop (below ys) ys
   new [] d e = refl
   new (y ∷ ys) d e =
       (elim (less y x)
-      as (λ b. (cond b (suc (below less x ys)) 0 < suc (length ys) → less x (get_or (y ∷ ys) (cond b (suc (below less x ys)) 0) d) ≡ true) → cond b (y ∷ insert less x ys) (cond (less x y) (x ∷ y ∷ ys) (y ∷ ys)) ≡ take (cond b (suc (below less x ys)) 0) (y ∷ ys) ++ x ∷ drop (cond b (suc (below less x ys)) 0) (y ∷ ys)) [
-        | true ↦ λ f. ap (λ (l : List X). y ∷ l) (new ys d (λ k. f (omega arith)))
+      as (λ b. (cond b (1 + below ys) 0 < suc (length ys) → less x (get_or (y ∷ ys) (cond b (1 + below ys) 0) d) ≡ true) → cond b (y ∷ insert less x ys) (cond (less x y) (x ∷ y ∷ ys) (y ∷ ys)) ≡ take (cond b (1 + below ys) 0) (y ∷ ys) ++ x ∷ drop (cond b (1 + below ys) 0) (y ∷ ys)) [
+        | true ↦ λ f.
+            subst (λ (m : ℕ). y ∷ insert less x ys ≡ take m (y ∷ ys) ++ x ∷ drop m (y ∷ ys)) (sym (next (below ys)))
+            (ap (λ (l : List X). y ∷ l) (new ys d (λ k. subst (λ (m : ℕ). less x (get_or (y ∷ ys) m d) ≡ true) (next (below ys)) (f (omega arith)))))
         | false ↦ λ f. ap (λ (b : Bool). cond b (x ∷ y ∷ ys) (y ∷ ys)) (f (omega arith))
       ])
       e
@@ -70,7 +70,7 @@ module _ {X : Type 0} (less : X → X → Bool) (x : X) where
       let m : length (take i ys ++ x ∷ drop i ys) ≡ length ys + 1 = simp (length-append, length-take, length-drop) (omega arith) in
       n ∙ m
 
-  module _ (slots : List X) (n i : ℕ) (d : X) (fits : n ≤ length slots) (found : i ≡ below less x (take n slots)) where
+  module _ (slots : List X) (n i : ℕ) (d : X) (fits : n ≤ length slots) (found : i ≡ below (take n slots)) where
     items_length : length (take n slots) ≡ n
     items_length = length-take-le n slots fits
 
@@ -138,11 +138,15 @@ module _ {X : Type 0} (less : X → X → Bool) (x : X) where
           counts = sym (ap length after ∙ count);
         }
 
-  pub exact : (slots : List X) (n i : ℕ) → i ≡ below less x (take (n - 0) slots) → i ≡ below less x (take n slots)
-  exact slots n i e = e ∙ ap (λ (m : ℕ). below less x (take m slots)) (let q : n - 0 ≡ n = omega arith in q)
+  pub exact : (slots : List X) (n i : ℕ) → i ≡ below (take (n - 0) slots) → i ≡ below (take n slots)
+  exact slots n i e = e ∙ ap (λ (m : ℕ). below (take m slots)) (let q : n - 0 ≡ n = omega arith in q)
 
   pub within : (slots : List X) (n i : ℕ) → i ≤ length (take (n - 0) slots) → i ≤ n
   within slots n i h = omega (arith, length-take (n - 0) slots)
 
   pub by_default : (slots : List X) (i : ℕ) (d : X) (b : Bool) → i < length slots → b ≡ less x (get_or slots i d) → less x (get_or slots i x) ≡ b
   by_default slots i d b h e = ap (less x) (get_or_default slots i x d h) ∙ sym e
+
+-- the same told of another name of the order
+pub retold : {X : Type 0} {less less' : X → X → Bool} {x : X} {slots slots' : List X} {n n' : ℕ} {r : Result Bool RollFault} → ◌≡◌ {A = X → X → Bool} less less' → Inserted less x slots n r slots' n' → Inserted less' x slots n r slots' n'
+retold {x = x} {slots = slots} {slots' = slots'} {n = n} {n' = n'} {r = r} e told = subst (λ l. Inserted l x slots n r slots' n') e told

@@ -1,13 +1,8 @@
 -- What an insertion into a roll does: its answer, the items after it, and the slots. The items are the first of the slots.
-use Rattle.std.specs.Prelude.{◌≡◌, ℕ, suc, ◌+◌, ◌-◌, Bool, true, false, cond, List, [], ◌∷◌, ◌++◌, length, take, drop, replicate, Ok, Err, Result, ◌==◌, nat_lt}
+use Rattle.std.specs.Prelude.{◌≡◌, ℕ, ◌+◌, ◌-◌, Bool, true, false, cond, List, ◌++◌, length, take, drop, replicate, Ok, Err, Result, ◌==◌, nat_lt}
 use Rattle.rolls.specs.declared.slots.RollFault.{RollFault}
 use Rattle.rolls.specs.declared.slots.RollFault.TheVariants.{Full}
 use Rattle.rolls.specs.Order.{insert}
-
--- how many items from the first on come before x
-abbrev pub below : {X : Type 0} → (X → X → Bool) → X → List X → ℕ
-below less x [] = 0
-below less x (y ∷ ys) = cond (less y x) (suc (below less x ys)) 0
 
 -- whether x is new, or that a new x finds no room; a full roll that has x says so
 abbrev pub answer : {X : Type 0} → (X → X → Bool) → X → ℕ → List X → Result Bool RollFault

@@ -1,12 +1,19 @@
--- Ordered lists without repeats, in this order: total orders, ascending lists and their members, the list of all items with a
--- property, the list with one more item, and the two orders that records are built from.
+-- Ordered lists without repeats, in this order: total orders, and what compares by one, ascending lists and their members, the list of all
+-- items with a property, the list with one more item, and the two orders that records are built from.
 use Rattle.std.specs.Prelude.{◌≡◌, ℕ, Bool, true, false, cond, ◌⊎◌, List, [], ◌∷◌, nat_lt}
+use Rattle.std.specs.declared.cmp.Ordering.{Ordering}
+use Rattle.std.specs.Ordering.{is_lt}
 
 -- `less` is a strict total order
 pub record TotalOrder {X : Type 0} (less : X → X → Bool) : Type 0 where
   pub irreflexive : (x : X) → less x x ≡ false
   pub transitive : (x y z : X) → less x y ≡ true → less y z ≡ true → less x z ≡ true
   pub total : (x y : X) → less x y ≡ false → less y x ≡ false → x ≡ y
+
+-- `less` is a strict total order, and is what a type's `cmp` calls less
+pub record Compares {X : Type 0} (cmp : X → X → Ordering) (less : X → X → Bool) : Type 0 where
+  pub same : (x y : X) → is_lt (cmp x y) ≡ less x y
+  pub order : TotalOrder less
 
 -- x is less than each item
 abbrev pub Leads : {X : Type 0} → (X → X → Bool) → X → List X → Type 0

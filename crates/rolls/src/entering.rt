@@ -4,14 +4,12 @@ ghost use Rattle.rolls.specs.Insertion.{Inserted, cleared};
 
 use super::Roll;
 use super::ordered::Ordered;
-use super::slots::{RollFault, clear_beyond, place};
+use super::slots::{RollFault, place};
 
 impl<T: Ordered> Roll<'_, T> {
     // Enters x in its place; true where it is new.
     pub fn insert(&mut self, x: T) -> Result<bool, RollFault>
-        requires { self.old.len ≤ length self.old.slots.now }
         ensures inserted { Inserted T.Ordered.less x self.old.slots.now self.old.len result self.new.slots.now self.new.len }
-        ensures fits { self.new.len ≤ length self.new.slots.now }
         ensures lender { self.new.slots.ghost_name ≡ self.old.slots.ghost_name }
     {
         let len = self.len;
@@ -26,12 +24,11 @@ impl<T: Ordered> Roll<'_, T> {
 impl<T: Copy> Roll<'_, T> {
     // Writes `blank` beyond the items, and answers how many items there are.
     pub fn close(self, blank: T) -> usize
-        requires { self.len ≤ length self.slots.now }
         ensures count { result ≡ self.entry.len }
         ensures holds { self.exit.0.now ≡ cleared blank self.entry.len self.entry.slots.now }
     {
-        let len = self.len;
-        clear_beyond(self.slots, len, blank);
+        let Roll { slots, len } = self;
+        slots[len..].fill_with(|| blank);
         len
     }
 }

@@ -1,5 +1,7 @@
 // Theorems on insertion and on dictionary order.
-ghost use Rattle.rolls.specs.Order.{InsertionExact, OrderUnique, TotalOrder, dictionary};
+ghost use Rattle.std.specs.Cmp.Lexicographic.{slice_cmp};
+ghost use Rattle.std.specs.Ordering.{nat_cmp};
+ghost use Rattle.rolls.specs.Order.{Compares, InsertionExact, OrderUnique, TotalOrder, dictionary};
 
 use super::ordered::Ordered;
 
@@ -9,7 +11,8 @@ pub fn insertion_is_exact<T: Ordered>()
     ensures unique { OrderUnique T.Ordered.less }
 {}
 
-// Dictionary order is a total order.
+// Dictionary order is a total order, and std's order of lists of numbers is this one.
 pub fn dictionary_is_total()
-    ensures { TotalOrder dictionary }
+    ensures total { TotalOrder dictionary }
+    ensures compares { Compares (slice_cmp nat_cmp) dictionary }
 {}

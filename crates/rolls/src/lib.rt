@@ -1,7 +1,7 @@
 // An ordered roll without repeats over slots that the caller lends.
 #![tactic(auto)]
 
-ghost use Rattle.std.specs.Prelude.{◌≡◌};
+ghost use Rattle.std.specs.Prelude.{◌≡◌, ◌≤◌, length, min};
 
 mod entering;
 mod laws;
@@ -9,14 +9,15 @@ mod ordered;
 mod slots;
 
 pub use laws::{dictionary_is_total, insertion_is_exact};
-pub use ordered::{Ordered, comes_before};
+pub use ordered::Ordered;
 pub use slots::RollFault;
 
-// The first `len` slots are the items.
+// The first `len` slots are the items. A slice and a count, since there is no heap: the slots are the caller's.
 #[derive(Drop)]
 pub struct Roll<'a, T> {
     slots: &'a mut [T],
     len: usize,
+    ghost fits: { len ≤ length slots.now },
 }
 
 impl<'a, T> Roll<'a, T> {
@@ -28,12 +29,13 @@ impl<'a, T> Roll<'a, T> {
         Roll { slots, len: 0 }
     }
 
-    // The roll whose items are the first `len` slots, to go on with.
+    // The roll whose items are the first `len` slots, or all slots if there are not so many, to go on with.
     pub fn resume(slots: &'a mut [T], len: usize) -> Self
-        ensures count { result.len ≡ len }
+        ensures count { result.len ≡ min len (length slots.old) }
         ensures lender { result.slots.ghost_name ≡ slots.entry.ghost_name }
         ensures same { result.slots.now ≡ slots.old }
     {
+        let len = len.min(slots.len());
         Roll { slots, len }
     }
 
@@ -62,7 +64,8 @@ mod tests {
 
     #[test]
     fn compares_from_the_first_number_on(rt: HostRuntime) {
-        assert!(rt; comes_before(&[1, 2], &[1, 3]));
-        assert!(rt; comes_before(&[1], &[1, 0]));
+        let [shorter, longer]: [&[u16]; 2] = [&[1], &[1, 0]];
+        assert!(rt; [1u16, 2] < [1u16, 3]);
+        assert!(rt; shorter < longer);
     }
 }

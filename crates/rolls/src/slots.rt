@@ -1,6 +1,8 @@
 // The roll's work, on plain slots.
 ghost use Rattle.std.specs.Prelude.{◌≡◌, ℕ, ◌+◌, ◌-◌, ◌<◌, ◌≤◌, ◌∷◌, length, take};
-ghost use Rattle.rolls.specs.Insertion.{below, Inserted, grown, cleared};
+ghost use Rattle.std.specs.List.{prefix_len};
+ghost use Rattle.std.specs.Ordering.{partial_lt};
+ghost use Rattle.rolls.specs.Insertion.{Inserted, grown};
 
 use super::ordered::Ordered;
 
@@ -12,13 +14,9 @@ pub enum RollFault {
 // How many items from the first on come before x.
 fn lower<T: Ordered>(items: &[T], x: &T) -> usize
     ensures bound { result ≤ length items.now }
-    ensures value { result ≡ below T.Ordered.less x.now items.now }
+    ensures value { result ≡ prefix_len (λ item. partial_lt T.PartialOrd.partial_cmp item x.now) items.now }
 {
-    let mut i = 0;
-    while i < items.len() && items[i].precedes(x) {
-        i += 1;
-    }
-    i
+    items.iter().take_while(|item| **item < *x).count()
 }
 
 // Opens a place at the front of the row, which loses its last element, and writes x there.
@@ -36,7 +34,7 @@ pub(crate) fn place<T: Ordered>(slots: &mut [T], len: usize, x: T) -> Result<boo
     ensures { Inserted T.Ordered.less x slots.old len result slots.new (grown len result) }
 {
     let i = lower(&slots[0..len], &x);
-    if i < len && !x.precedes(&slots[i]) {
+    if i < len && !(x < slots[i]) {
         return Ok(false);
     }
     if len == slots.len() {
@@ -44,14 +42,4 @@ pub(crate) fn place<T: Ordered>(slots: &mut [T], len: usize, x: T) -> Result<boo
     }
     open_front(&mut slots[i..len + 1], x);
     Ok(true)
-}
-
-// Writes `blank` into each slot from `len` on.
-pub(crate) fn clear_beyond<T: Copy>(slots: &mut [T], len: usize, blank: T)
-    requires { len ≤ length slots.old }
-    ensures { slots.new ≡ cleared blank len slots.old }
-{
-    for i in len..slots.len() {
-        slots[i] = blank;
-    }
 }

@@ -1,5 +1,5 @@
 -- A form that is not zero has ℓ roots at most, so that ℓ records hold them.
-use Rattle.std.proofs.Common.{◌≡◌, ℕ, zero, suc, ◌+◌, ◌-◌, ◌*◌, ◌<◌, ◌≤◌, Bool, true, false, cond, eqb, ◌≢◌, List, [], ◌∷◌, length, get_or, drop, sym, refl, ap, ◌∙◌, inl, inr, suc-mul, add-mul, one-mul, arith, length-drop, length-take}
+use Rattle.std.proofs.Common.{◌&&◌, ◌≡◌, ℕ, zero, suc, ◌+◌, ◌-◌, ◌*◌, ◌<◌, ◌≤◌, Bool, true, false, eqb, ◌≢◌, List, [], ◌∷◌, length, get_or, drop, sym, refl, ap, ◌∙◌, inl, inr, suc-mul, add-mul, one-mul, arith, length-drop, length-take}
 use native.Mathlib.Decide.{dec_lt}
 use borrow.Author.Tests.{eqb-false}
 use Rattle.std.proofs.lemmas.List.{ext_get_or, get_or-take, get_or-drop}
@@ -7,12 +7,12 @@ use Rattle.fields.specs.Numbers.{Numbers, AllBelow, Element, pos, field_of, elem
 use Rattle.polynomials.specs.Series.{poly}
 use Rattle.polynomials.proofs.Readings.{poly_at, poly_past, all_at}
 use Rattle.decoding.proofs.AtMost.{roots_at_most}
-use Rattle.rolls.specs.Order.{TotalOrder, Leads, Ascending, Has}
-use Rattle.rolls.proofs.Orders.{in_turn_total, dictionary_total}
+use Rattle.rolls.specs.Order.{Leads, Ascending, Has}
 use Rattle.digits.specs.Runs.{run}
 use Rattle.digits.proofs.Arrays.{all_take, all_drop}
 use Rattle.leaves.specs.declared.pairs.Pair.{Pair}
 use Rattle.leaves.specs.Order.{in_order}
+use Rattle.leaves.specs.Ordering.{pair_order}
 use Rattle.roots.specs.Asked.{Asked, all_zero}
 use Rattle.roots.specs.Answer.{form_of, IsRoot}
 
@@ -34,14 +34,6 @@ module _ {X : Type 0} (less : X → X → Bool) where
   ascending_at (x ∷ xs) (suc i) zero d a u v = absurd (let z : suc i < 0 = u in omega arith)
   ascending_at (x ∷ xs) (suc i) (suc j) d a u v = ascending_at xs i j d a.1 (omega arith) (omega arith)
 
-pub pair_order : TotalOrder in_order
-pair_order = in_turn_total dictionary_total dictionary_total (λ p. p.first) (λ p. p.second) one
-  where
-    one : (p q : Pair) → p.first ≡ q.first → p.second ≡ q.second → p ≡ q
-    one p q e f =
-        ap (λ (l : List ℕ). let r : Pair = record { first = l; second = p.second } in r) e
-        ∙ ap (λ (l : List ℕ). let r : Pair = record { first = q.first; second = l } in r) f
-
 module _ (F : Numbers) where
   -- a list of elements is known by its polynomial
   pub same_list : (xs ys : List ℕ) → length xs ≡ length ys → AllBelow F.q xs → AllBelow F.q ys → poly F xs ≡ poly F ys → xs ≡ ys
@@ -61,7 +53,7 @@ module _ (F : Numbers) where
   nonzero [] e = absurd (let z : ◌≡◌ {A = ℕ} 0 1 = cc in omega arith)
   nonzero (x ∷ xs) e = go (nonzero xs) (eqb x 0) refl e
     where
-      go : (all_zero xs ≡ false → (i : ℕ) × (i < length xs) × (get_or xs i 0 ≢ 0)) → (b : Bool) → eqb x 0 ≡ b → cond b (all_zero xs) false ≡ false → (i : ℕ) × (i < suc (length xs)) × (get_or (x ∷ xs) i 0 ≢ 0)
+      go : (all_zero xs ≡ false → (i : ℕ) × (i < length xs) × (get_or xs i 0 ≢ 0)) → (b : Bool) → eqb x 0 ≡ b → (b && all_zero xs) ≡ false → (i : ℕ) × (i < suc (length xs)) × (get_or (x ∷ xs) i 0 ≢ 0)
       go more true t f = let k = more f in (suc k.0, let h = k.1 in omega arith, k.2)
       go more false t f = (0, omega arith, eqb-false x 0 t)
 

@@ -17,7 +17,8 @@ use Rattle.leaves.specs.Reached.{Reached}
 use Rattle.roots.specs.Asked.{Asked, all_zero}
 use Rattle.roots.specs.Answer.{IsRoot, blank, Listed}
 use Rattle.roots.specs.Desk.{Desk, Stays, Entered, Visit, Walks}
-use Rattle.roots.proofs.Few.{pair_order, few_roots}
+use Rattle.leaves.specs.Ordering.{pair_order}
+use Rattle.roots.proofs.Few.{few_roots}
 use Rattle.roots.proofs.Collected.{put, Holds, Finds, chain_holds}
 use Rattle.roots.proofs.Charts.{Wanted₁, Wanted₂, wanted_first, wanted_second, either_chart}
 use Rattle.roots.proofs.Reaching.{good_direct, wanted_direct, good_turned, wanted_turned}
@@ -94,7 +95,7 @@ module _ (F : Numbers) (a : Asked) (room : ℕ) (long : length a.form ≡ (a.ℓ
     pub direct_stays : Stays (direct r slots 0) walks.0
     direct_stays = first.0.0
 
-    pub direct_fits : n₁ ≤ length slots₁
+    direct_fits : n₁ ≤ length slots₁
     direct_fits = let h = first.0.1 in omega (arith, ap length walks.2, walks.3)
 
     pub direct_room : length slots₁ ≡ room
@@ -123,7 +124,7 @@ module _ (F : Numbers) (a : Asked) (room : ℕ) (long : length a.form ≡ (a.ℓ
           subst (Lists in_order (IsRoot F a)) (ap₂ (λ (m : ℕ) (s : List Pair). take m s) further.3 further.2)
           (record { ascending = second.1.ascending; sound = second.1.sound; complete = reached })
 
-      pub roots_fit : n₂ ≤ length slots₂
+      roots_fit : n₂ ≤ length slots₂
       roots_fit = let h = second.0.1 in omega (arith, ap length further.2, further.3)
 
       pub roots_room : length slots₂ ≡ room

@@ -1,47 +1,16 @@
 -- Copies of runs: one run with zeros after it, and all runs, by the first and the rest.
-use Rattle.std.proofs.Common.{◌≡◌, ℕ, zero, suc, ◌+◌, ◌-◌, ◌*◌, ◌<◌, ◌≤◌, List, [], ◌++◌, length, get_or, take, drop, sym, ap, ◌∙◌, subst, ap₂, mul-le-mul_right, suc-mul, add-mul, one-mul, zero-mul, arith, length-append, length-drop, length-take}
+use Rattle.std.proofs.Common.{◌≡◌, ℕ, zero, suc, ◌+◌, ◌-◌, ◌*◌, ◌<◌, ◌≤◌, List, [], ◌++◌, length, take, drop, sym, ap, ◌∙◌, subst, ap₂, mul-le-mul_right, suc-mul, add-mul, one-mul, zero-mul, arith, length-append, length-drop, length-take}
 use mathlib.Core.Path.{fun_ext}
-use native.Mathlib.Decide.{dec_lt}
 use borrow.Rule.Slice.PartMut.{put_mid}
-use Rattle.std.proofs.lemmas.List.{append-nil, take_all, take_at, take-take, drop_at, drop_all, drop-drop, drop-take, get_or_append_left, get_or-append-add, get_or-drop}
-use Rattle.algebra.specs.Poly.{pzero, Below}
+use Rattle.std.proofs.lemmas.List.{append-nil, take_all, take_at, take-take, drop_at, drop_all, drop-drop, drop-take}
+use Rattle.algebra.specs.Poly.{Below}
 use Rattle.algebra.specs.PolyRing.{Poly}
-use Rattle.fields.specs.Numbers.{Numbers, AllBelow, Element, elem, ring_of}
+use Rattle.fields.specs.Numbers.{Numbers, AllBelow, Element, ring_of}
 use Rattle.polynomials.specs.Series.{poly, Reads}
-use Rattle.polynomials.proofs.Readings.{poly_at, past, all_at}
 use Rattle.digits.specs.Runs.{run, runs}
 use Rattle.digits.proofs.Arrays.{all_join, runs_below, lent_take, lent_drop, part_rest}
 
 module _ (F : Numbers) where
-  -- p, written over the first of zeros
-  pub padded : (xs zs p : List ℕ) (n : ℕ) → n ≡ length p → xs ≡ p → AllBelow F.q p → Reads F zs (pzero (ring_of F)) → Reads F (xs ++ drop n zs) (poly F p)
-  unfolding pzero
-  padded xs zs p n en e a z =
-      subst (λ (m : ℕ). Reads F (xs ++ drop m zs) (poly F p)) (sym en)
-      (record {
-        below = λ k u. go_below k (dec_lt k (length p));
-        is = fun_ext (λ k. poly_at F (xs ++ drop (length p) zs) k ∙ go k (dec_lt k (length p)) ∙ sym (poly_at F p k));
-      })
-    where
-      front : (k : ℕ) → k < length p → get_or (xs ++ drop (length p) zs) k 0 ≡ get_or p k 0
-      front k h = ap (λ (l : List ℕ). get_or (l ++ drop (length p) zs) k 0) e ∙ get_or_append_left p (drop (length p) zs) 0 k h
-
-      rest : (k : ℕ) → (k < length p → ⊥) → get_or (xs ++ drop (length p) zs) k 0 ≡ get_or zs k 0
-      rest k h =
-          ap (λ (l : List ℕ). get_or (l ++ drop (length p) zs) k 0) e
-          ∙ ap (λ (j : ℕ). get_or (p ++ drop (length p) zs) j 0) (let q : k ≡ length p + (k - length p) = omega arith in q)
-          ∙ get_or-append-add p (drop (length p) zs) (k - length p) 0
-          ∙ get_or-drop (length p) zs (k - length p) 0
-          ∙ ap (λ (j : ℕ). get_or zs j 0) (let q : length p + (k - length p) ≡ k = omega arith in q)
-
-      go : (k : ℕ) → Dec (k < length p) → elem F (get_or (xs ++ drop (length p) zs) k 0) ≡ elem F (get_or p k 0)
-      go k (yes h) = ap (elem F) (front k h)
-      go k (no h) = ap (elem F) (rest k h) ∙ sym (poly_at F zs k) ∙ ap (λ (f : ℕ → Element F). f k) z.is ∙ sym (ap (elem F) (past F p k (omega arith)))
-
-      go_below : (k : ℕ) → Dec (k < length p) → get_or (xs ++ drop (length p) zs) k 0 < F.q
-      go_below k (yes h) = subst (λ n. n < F.q) (sym (front k h)) (all_at F p a k)
-      go_below k (no h) = subst (λ n. n < F.q) (sym (rest k h)) (all_at F zs z.below k)
-
   module _ (w n d : ℕ) (out last : List ℕ) (en : n ≡ w) (room : length out ≡ (d + 1) * w) (long : length last ≡ w) where
     wide : w ≤ length out
     wide = omega (arith, room, add-mul d 1 w, one-mul w)

@@ -1,5 +1,5 @@
 -- The two walks as the code makes them: the second goes on from the desk that the first one left, with the turned form and the bounds exchanged.
-use Rattle.std.proofs.Common.{◌≡◌, ℕ, suc, ◌+◌, ◌≤◌, List, [], length, refl, ◌∙◌, subst, ap₂}
+use Rattle.std.proofs.Common.{◌≡◌, ℕ, suc, ◌+◌, List, [], length, refl, ◌∙◌, subst, ap₂}
 use Rattle.fields.specs.Numbers.{Numbers}
 use Rattle.rolls.specs.Insertion.{cleared}
 use Rattle.digits.specs.Runs.{runs}
@@ -10,7 +10,7 @@ use Rattle.leaves.specs.declared.pairs.Chart.TheVariants.{Direct, Turned}
 use Rattle.roots.specs.Asked.{Asked, Answerable}
 use Rattle.roots.specs.Answer.{blank, Listed}
 use Rattle.roots.specs.Desk.{Desk, desk, turned_asked, Turns, Stays, Visit, Walks}
-use Rattle.roots.proofs.Gathered.{direct_stays, direct_fits, roots_fit, listed}
+use Rattle.roots.proofs.Gathered.{direct_stays, listed}
 
 module _ (F : Numbers) where
   abbrev Walk : Chart → Asked → ℕ → List Pair → ℕ → ℕ → Desk → Type 0
@@ -29,19 +29,12 @@ module _ (F : Numbers) where
     pub stays : Stays (desk Direct a r slots 0) d₁
     stays = direct_stays F a (length slots) x.long x.all x.some x.enough r slots d₁.slots d₁.len refl first
 
-    pub first_fits : d₁.len ≤ length d₁.slots
-    first_fits = direct_fits F a (length slots) x.long x.all x.some x.enough r slots d₁.slots d₁.len refl first
-
     module _ (b : Asked) (t : Turns F a b) {M : ℕ} (d₂ : Desk) (eM : M ≡ suc (b.w₁ + b.w₂)) (w' : Walk Turned b d₁.room d₁.slots d₁.len M d₂) where
       second : Walks F (desk Turned (turned_asked a b.form) d₁.room d₁.slots d₁.len) d₂.slots d₂.len
       second =
           subst (λ (z : Asked). Walks F (desk Turned z d₁.room d₁.slots d₁.len) d₂.slots d₂.len) t.is (walks Turned b d₁.room d₁.slots d₂ refl eM w')
 
-      pub second_fits : d₂.len ≤ length d₂.slots
-      second_fits =
-          roots_fit F a (length slots) x.long x.all x.some x.enough r slots d₁.slots d₁.len refl first d₁.room b.form d₂.slots d₂.len t.long t.same second
-
-      -- the roots are listed where the roll is taken up again and closed: at the return `area` is what the closing left, `left`
+      -- the roots are listed where the roll is closed: at the return `area` is what the closing left, `left`
       pub closed : (k n : ℕ) (again left : List Pair) {area : List Pair} → k ≡ n → n ≡ d₂.len → again ≡ d₂.slots → left ≡ cleared blank n again → area ≡ left → Listed F a k area
       closed k n again left {area} ek en es el e =
           listed F a (length slots) x.long x.all x.some x.enough r slots d₁.slots d₁.len refl first d₁.room b.form d₂.slots d₂.len t.long t.same second k area (ek ∙ en)

@@ -1,11 +1,12 @@
 -- The question of the roots call: what it is given, and what refuses it, in the order of the checks.
-use Rattle.std.specs.Prelude.{◌≡◌, ℕ, ◌+◌, ◌*◌, ◌<◌, ◌≤◌, Bool, true, false, cond, not, List, [], ◌∷◌, length, Option, ◌==◌, nat_lt, slice_index}
+use Rattle.std.specs.Prelude.{◌≡◌, ℕ, ◌+◌, ◌*◌, ◌<◌, ◌≤◌, Bool, false, not, List, length, Option, ◌==◌, nat_lt, slice_index}
+use Rattle.std.specs.List.{list_all}
 use Rattle.fields.specs.Numbers.{AllBelow}
 use Rattle.codes.specs.First.{or_else, when, mapped}
 use Rattle.codes.specs.Codewords.{first_beyond}
 use Rattle.faults.specs.declared.ListingFault.{ListingFault}
 use Rattle.faults.specs.declared.ListingFault.TheVariants.{Shape, NotAnElement, ZeroForm, ResultArea, WorkArea}
-use Rattle.roots.specs.declared.asking.Question.{Question}
+use Rattle.leaves.specs.declared.questions.Question.{Question}
 
 -- ℓ + 1 runs of c numbers, and the bounds
 pub record Asked : Type 0 where
@@ -19,8 +20,7 @@ abbrev pub asked : Question → Asked
 asked q = record { form = q.form.now; ℓ = q.degree; c = q.length; w₁ = q.w1; w₂ = q.w2 }
 
 abbrev pub all_zero : List ℕ → Bool
-all_zero [] = true
-all_zero (x ∷ xs) = cond (x == 0) (all_zero xs) false
+all_zero = list_all (λ x. x == 0)
 
 -- 1 ≤ ℓ ≤ 8, 1 ≤ c ≤ 400, bounds from 0 to 31, and ℓ + 1 runs of c numbers
 abbrev pub shape_fault : Asked → Option ListingFault

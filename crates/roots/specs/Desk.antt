@@ -9,7 +9,8 @@ use Rattle.leaves.specs.declared.pairs.Pair.{Pair}
 use Rattle.leaves.specs.declared.pairs.Chart.{Chart}
 use Rattle.leaves.specs.Order.{in_order}
 use Rattle.leaves.specs.Reached.{Reached}
-use Rattle.roots.specs.Asked.{Asked}
+use Rattle.roots.specs.declared.finding.Finder.{Finder}
+use Rattle.roots.specs.Asked.{Asked, asked}
 
 -- the chart, the form in it, its sizes and bounds, how many numbers there are to work with, and the roll
 pub record Desk : Type 0 where
@@ -27,6 +28,13 @@ pub record Desk : Type 0 where
 abbrev pub desk : Chart → Asked → ℕ → List Pair → ℕ → Desk
 desk chart a room slots n =
     record { chart = chart; form = a.form; width = a.c; degree = a.ℓ; w₁ = a.w₁; w₂ = a.w₂; room = room; slots = slots; len = n }
+
+-- the desk that a finder works at, and the loans by which it holds its roll: of the roll, and of the roll's slots
+abbrev pub desk_of : {X : Type 0} → Finder X → Desk
+desk_of s = desk s.chart (asked s.question) (length s.work.now) s.roll.now.slots.now s.roll.now.len
+
+abbrev pub loans : {X : Type 0} → Finder X → ℕ × ℕ
+loans s = (s.roll.ghost_name, s.roll.now.slots.ghost_name)
 
 -- the question with f₁ and f₂ in each other's place
 abbrev pub turned_asked : Asked → List ℕ → Asked

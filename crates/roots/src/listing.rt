@@ -6,22 +6,18 @@ ghost use Rattle.roots.specs.Asked.{asked, roots_fault, need, Answerable};
 ghost use Rattle.roots.specs.Answer.{Listed, Answered};
 ghost use Rattle.roots.specs.Desk.{Turns};
 
-use super::asking::Question;
+use super::asking::check;
 use super::finding::{Finder, walk_question, walk_turned};
 use super::spreading::spread_turned;
 use areas::Wipe;
 use faults::ListingFault;
 use fields::Field;
-use leaves::{Chart, Pair};
+use leaves::{Chart, Pair, Question};
 use rolls::Roll;
 use std::marker::PhantomData;
 
-const BLANK: Pair = Pair {
-    first: [0; 32],
-    second: [0; 32],
-};
-
 // Lists what both charts come to, in one roll: a root with f1(0) not zero is found with the form, any other with the turned form.
+// The three areas are cut once, by `list_roots`, and each has a length of its own.
 fn collect_roots<'f, F: Field>(
     direct: Question<'f>,
     turned: Question<'f>,
@@ -37,18 +33,17 @@ fn collect_roots<'f, F: Field>(
     requires work { 3 * (direct.length + direct.degree * 31) ≤ length room.old }
     ensures { Listed F.Field.numbers (asked direct.entry) result out.new }
 {
+    let mut roll = Roll::new(out);
     let mut finder = Finder::<F> {
         chart: Chart::Direct,
         question: direct,
         work: room,
-        slots: out,
-        len: 0,
+        roll: &mut roll,
         field: PhantomData,
     };
     walk_question::<F>(&mut finder, runs, digits);
     walk_turned::<F>(&mut finder, turned, runs, digits);
-    let count = finder.len;
-    Roll::resume(out, count).close(BLANK)
+    roll.close(Pair::BLANK)
 }
 
 // Lists the roots that a question asks for, in order and each once, with blank records beyond them, and answers how many there are. The work area
@@ -90,6 +85,6 @@ pub fn roots<F: Field>(
     ensures wiped { AllZero work.new }
 {
     let guard = Wipe { area: work };
-    question.check::<F>(out.len(), guard.area.len())?;
+    check::<F>(question, out.len(), guard.area.len())?;
     Ok(list_roots::<F>(question, out, guard.area))
 }

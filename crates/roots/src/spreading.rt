@@ -5,20 +5,10 @@ ghost use Rattle.polynomials.specs.Series.{poly, Reads};
 ghost use Rattle.digits.specs.Runs.{runs as runs_of};
 
 use fields::Field;
-use polynomials::clear;
-
-// p and zeros after it.
-fn pad<F: Field>(out: &mut [u16], p: &[u16])
-    requires all { AllBelow F.Field.numbers.q p.now }
-    requires room { length p.now ≤ length out.old }
-    ensures { Reads F.Field.numbers out.new (poly F.Field.numbers p.now) }
-{
-    clear::<F>(out);
-    let n = p.len();
-    out[0..n].copy_from_slice(p);
-}
+use polynomials::pad;
 
 // The runs of `narrow` numbers as runs of `width`.
+// By recursion: what a loop over `chunks_exact_mut` has written is not known to a proof once the loop is over.
 pub(crate) fn spread<F: Field>(
     form: &[u16],
     narrow: usize,
@@ -46,7 +36,7 @@ pub(crate) fn spread<F: Field>(
     );
 }
 
-// The same with the last run first.
+// The same with the last run first. The two stay apart, since an order that both took would be a test at each run.
 pub(crate) fn spread_turned<F: Field>(
     form: &[u16],
     narrow: usize,

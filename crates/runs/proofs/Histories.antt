@@ -1,5 +1,5 @@
 -- A run writes the acts of its history, one after another, and none of them is refused. So what a book shows after a run is what the latest act about it said.
-use Rattle.std.proofs.Common.{◌≡◌, ℕ, zero, suc, ◌<◌, Bool, true, false, cond, eqb, leb, List, [], ◌∷◌, ◌++◌, length, get_or, set, replicate, Some, None, Option, unwrap_or, sym, refl, ap, ◌∙◌, subst, ⊎_elim, arith, get_or-set_other, get_or-set_same, eq-eqb, ne_eqb, leb-false}
+use Rattle.std.proofs.Common.{◌≡◌, ℕ, zero, suc, ◌<◌, Bool, true, false, cond, eqb, leb, List, [], ◌∷◌, ◌++◌, length, get_or, set, replicate, Some, None, Option, unwrap_or, sym, refl, ap, ◌∙◌, subst, ⊎_elim, get_or-set_other, get_or-set_same, eq-eqb, ne_eqb, leb-false}
 use Rattle.std.proofs.lemmas.Bool.{cases_eq}
 use Rattle.fields.specs.Numbers.{Numbers}
 use Rattle.faults.specs.declared.CollectionFault.{CollectionFault}
@@ -12,7 +12,7 @@ use Rattle.codes.specs.Opening.{Given, given}
 use Rattle.codes.proofs.Firsts.{mapped_none}
 use Rattle.collections.specs.declared.Place.{Place}
 use Rattle.collections.specs.declared.Place.TheVariants.{Empty, Filled}
-use Rattle.collections.specs.Book.{Book, unopened, opened, Act, opening, entering, withdrawing, reading, place_check, place_in, check, writes, accepts, said_by, left_by, Said, done, told, Right, Fair}
+use Rattle.collections.specs.Book.{Book, unopened, opened, Act, opening, entering, withdrawing, reading, place_check, place_in, check, writes, accepts, said_by, left_by, Said, done, told, Fair}
 use Rattle.collections.proofs.Fairness.{no_fault, neither_left, neither_right, test_failed, fair_writes}
 use Rattle.sheets.specs.Sheet.{sheet_of, header_fault, field_fault}
 use Rattle.transfer.specs.Loading.{acts_of, first_refused, all_written, load_fault, loaded, said_by as said_loading, left_by as left_loading}
@@ -84,18 +84,18 @@ loads q tag b bs r e s =
     (load_by q tag b bs (load_fault q tag b bs) e refl s.loads.leaves)
 
 -- one call, and a run
-one : (F : Numbers) (tag lent : ℕ) (b : Book) (c : Call) (r : Reply) (e : Book) → Answered F tag lent b c r e → Written F.q b (done_in (acts_in c) r) e
-one F tag lent b (Open o) r e s = acted F.q b (opening (given o)) r e refl s
-one F tag lent b (Load bytes) r e s = loads F.q tag b bytes.now r e s
-one F tag lent b (Enter i v) r e s = acted F.q b (entering i v) r e refl s
-one F tag lent b (Withdraw i) r e s = acted F.q b (withdrawing i) r e refl s
-one F tag lent b (Read i) r e s = stays F.q b e (is_accepted r) (s.right.leaves ∙ left_same (check F.q b (reading i)) b)
-one F tag lent b (ListAll m w) r e s = stays F.q b e (is_accepted r) s.leaves
+one : (q : ℕ) (F : Numbers) (tag lent : ℕ) (b : Book) (c : Call) (r : Reply) (e : Book) → Answered q F tag lent b c r e → Written q b (done_in (acts_in c) r) e
+one q F tag lent b (Open o) r e s = acted q b (opening (given o)) r e refl s
+one q F tag lent b (Load bytes) r e s = loads q tag b bytes.now r e s
+one q F tag lent b (Enter i v) r e s = acted q b (entering i v) r e refl s
+one q F tag lent b (Withdraw i) r e s = acted q b (withdrawing i) r e refl s
+one q F tag lent b (Read i) r e s = stays q b e (is_accepted r) (s.right.leaves ∙ left_same (check q b (reading i)) b)
+one q F tag lent b (ListAll m w) r e s = stays q b e (is_accepted r) s.leaves
 
-pub run_written : (F : Numbers) (tag lent : ℕ) (b e : Book) (cs : List Call) (rs : List Reply) → Runs F tag lent b cs rs e → Written F.q b (history cs rs) e
-run_written F tag lent b e cs rs stop = record { passed = refl; leaves = refl }
-run_written F tag lent b e cs rs (go {m = m} {c} {cs = ds} {r} {rs = qs} st run) =
-    more F.q b m e (done_in (acts_in c) r) (history ds qs) (one F tag lent b c r m st) (run_written F tag lent m e ds qs run)
+pub run_written : (q : ℕ) (F : Numbers) (tag lent : ℕ) (b e : Book) (cs : List Call) (rs : List Reply) → Runs q F tag lent b cs rs e → Written q b (history cs rs) e
+run_written q F tag lent b e cs rs stop = record { passed = refl; leaves = refl }
+run_written q F tag lent b e cs rs (go {m = m} {c} {cs = ds} {r} {rs = qs} st run) =
+    more q b m e (done_in (acts_in c) r) (history ds qs) (one q F tag lent b c r m st) (run_written q F tag lent m e ds qs run)
 
 -- acts keep a book fair
 fair_acts : (q : ℕ) (b : Book) (acts : List Act) → first_refused q b acts ≡ None → Fair q b → Fair q (all_written b acts)
@@ -188,6 +188,6 @@ value_is x y None e = cc
 value_is x y (Some z) e = cc
 
 pub reads_tell : ReadsTell
-reads_tell F tag lent p cs rs b e x run s =
-    tells_it x (place_in b p) s.says (check F.q b (reading p)) s.replies s.right.answers
-    ∙ value_is (place_in b p) Empty (latest p (history cs rs)) (place_after F.q p (history cs rs) b (run_written F tag lent unopened b cs rs run))
+reads_tell q F tag lent p cs rs b e x run s =
+    tells_it x (place_in b p) s.says (check q b (reading p)) s.replies s.right.answers
+    ∙ value_is (place_in b p) Empty (latest p (history cs rs)) (place_after q p (history cs rs) b (run_written q F tag lent unopened b cs rs run))

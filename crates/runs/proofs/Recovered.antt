@@ -1,12 +1,12 @@
 -- What a list that is given has after a run, when a list is given, and the law of a whole run.
-use Rattle.std.proofs.Common.{◌≡◌, ℕ, zero, suc, ◌+◌, ◌<◌, ◌≤◌, min, Bool, true, false, not, eqb, ltb, leb, List, [], ◌∷◌, map, length, get_or, take, drop, is_some, Some, None, Option, sym, refl, ap, ◌∙◌, subst, arith, eq-eqb}
+use Rattle.std.proofs.Common.{◌≡◌, ℕ, zero, suc, ◌+◌, ◌<◌, ◌≤◌, min, false, not, ltb, leb, List, [], ◌∷◌, map, length, get_or, take, drop, is_some, Some, None, Option, Result, sym, refl, ap, ◌∙◌, subst, arith, eq-eqb}
 use lib.ListN.{length-map}
 use Rattle.std.proofs.lemmas.List.{get_or-map}
 use Rattle.std.proofs.lemmas.Bool.Decides.{nat_tests as tests}
-use Rattle.std.specs.List.{slice_get}
+use Rattle.std.proofs.lemmas.Option.{same_Some}
 use Rattle.fields.specs.Numbers.{Numbers}
 use Rattle.faults.specs.declared.ListingFault.{ListingFault}
-use Rattle.faults.specs.declared.ListingFault.TheVariants.{SourceCount, EmptyPlace, NotAnElement, ResultArea, WorkArea}
+use Rattle.faults.specs.declared.ListingFault.TheVariants.{EmptyPlace, NotAnElement, ResultArea, WorkArea}
 use Rattle.faults.specs.Faults.{listing_refusal}
 use Rattle.codes.specs.declared.Setting.{Setting}
 use Rattle.codes.specs.First.{or_else, when, first_of}
@@ -14,7 +14,7 @@ use Rattle.codes.specs.Opening.{Given}
 use Rattle.codes.proofs.Firsts.{when_false, when_none, or_else_none, first_none}
 use Rattle.collections.specs.declared.Place.{Place}
 use Rattle.collections.specs.declared.Place.TheVariants.{Empty, Filled}
-use Rattle.collections.specs.Book.{Book, unopened, opened, Act, place_in, Fits, AllFit, FairPage, Fair}
+use Rattle.collections.specs.Book.{Book, unopened, opened, Act, Fits, AllFit}
 use Rattle.collections.specs.Standing.{share, shares}
 use Rattle.gathering.specs.Shares.{number, numbers, count_fault, empty_fault, element_fault, gathering_fault}
 use Rattle.interpolating.specs.Interpolation.{work_of}
@@ -23,11 +23,12 @@ use Rattle.listings.specs.Listing.{Listing}
 use Rattle.listings.specs.Calls.{area_fault, listing_fault}
 use Rattle.runs.specs.declared.Call.{Call}
 use Rattle.runs.specs.declared.Call.TheVariants.{Read, List as ListAll}
-use Rattle.runs.specs.declared.Answer.{Answer}
-use Rattle.runs.specs.Law.{Reply, reply, tells, lists, refuses, AllNear, GivesAll, RightList, ListedBy, Answered, Runs}
-use Rattle.runs.specs.History.{history, latest, given_by, Full, Recovers, ReadsTell, ListsComplete, ListsGiven, TrueAfter, Law}
-use Rattle.runs.proofs.Histories.{Written, run_written, fair_after, place_after, given_in, given_after, reads_tell}
-use Rattle.runs.proofs.Running.{UpTo, up_to}
+use Rattle.runs.specs.declared.Outcome.{Outcome}
+use Rattle.runs.specs.declared.CallFault.{CallFault}
+use Rattle.runs.specs.Law.{Reply, reply, tells, lists, refuses, RightList, Answered, Runs}
+use Rattle.runs.specs.History.{history, latest, Full, Recovers, ListsComplete, ListsGiven, TrueAfter, Law}
+use Rattle.runs.proofs.Histories.{Written, run_written, fair_after, place_after, given_after, reads_tell}
+use Rattle.runs.proofs.Running.{up_to}
 
 -- no fault comes of checks that all pass
 both_none : {A : Type 0} (o p : Option A) → o ≡ None → p ≡ None → or_else o p ≡ None
@@ -98,7 +99,7 @@ recovers F acts (opened g ps) m w items None s e l =
 
 pub lists_complete : ListsComplete
 lists_complete F tag lent m w cs rs b e items run s =
-    recovers F (history cs rs) b m (min w lent) items (listing_fault F.q b (shares b) m (min w lent)) (run_written F tag lent unopened b cs rs run) refl s.says
+    recovers F (history cs rs) b m (min w lent) items (listing_fault F.q b (shares b) m (min w lent)) (run_written F.q F tag lent unopened b cs rs run) refl s.says
 
 -- the checks of a listing pass
 fits_at : (q : ℕ) (ps : List Place) (p : ℕ) → AllFit q ps → p < length ps → Fits q (get_or ps p Empty)
@@ -139,45 +140,42 @@ no_fault_full q acts g values ps m w s f h k =
     (both_none _ _ (counted_right (length g.points) (map share ps) (length-map ps share ∙ n)) (both_none _ _ (none_empty q ps values has) (none_beyond q ps values has fair.elements)))
     (room_enough (length g.points) g.setting m w h k)
 
-same_given : (g h : Given) → Some g ≡ Some h → g ≡ h
-same_given g h e = cc
-
 opened_full : (q : ℕ) (acts : List Act) (g : Given) (values : List ℕ) (b : Book) (m w : ℕ) → Written q unopened acts b → Full acts g values → g.setting.list_limit ≤ m → work_of (length g.points) g.setting ≤ w → listing_fault q b (shares b) m w ≡ None
 opened_full q acts g values unopened m w s f h k = let e : None ≡ Some g = given_after q acts unopened s ∙ f.open_with in cc
 opened_full q acts g values (opened x ps) m w s f h k =
-    let e : g ≡ x = sym (same_given x g (given_after q acts (opened x ps) s ∙ f.open_with)) in
+    let e : g ≡ x = sym (same_Some x g (given_after q acts (opened x ps) s ∙ f.open_with)) in
     subst (λ (z : Given). listing_fault q (opened z ps) (map share ps) m w ≡ None) e
     (no_fault_full q acts g values ps m w (subst (λ (z : Given). Written q unopened acts (opened z ps)) (sym e) s) f h k)
 
 pub lists_given : ListsGiven
 lists_given F tag lent m w cs rs b e r g values run s f h k =
-    let all = subst (λ (o : Option ListingFault). RightList F b o r) (opened_full F.q (history cs rs) g values b m (min w lent) (run_written F tag lent unopened b cs rs run) f h k) s.says in
+    let all = subst (λ (o : Option ListingFault). RightList F b o r) (opened_full F.q (history cs rs) g values b m (min w lent) (run_written F.q F tag lent unopened b cs rs run) f h k) s.says in
     (all.items, all.replies)
 
 -- each reply of a run, and the law of a whole run
-true_after : (F : Numbers) (tag lent : ℕ) (cs : List Call) (rs : List Reply) (b e : Book) (c : Call) (r : Reply) → Runs F tag lent unopened cs rs b → Answered F tag lent b c r e → TrueAfter F lent (history cs rs) c r
+true_after : (F : Numbers) (tag lent : ℕ) (cs : List Call) (rs : List Reply) (b e : Book) (c : Call) (r : Reply) → Runs F.q F tag lent unopened cs rs b → Answered F.q F tag lent b c r e → TrueAfter F lent (history cs rs) c r
 true_after F tag lent cs rs b e c r run s =
     record {
-      reads = λ p x u v. reads_tell F tag lent p cs rs b e x run (as_said (Read p) (tells x) u v);
+      reads = λ p x u v. reads_tell F.q F tag lent p cs rs b e x run (as_said (Read p) (tells x) u v);
       complete = λ m w items u v. lists_complete F tag lent m w cs rs b e items run (as_said (ListAll m w) (lists items) u v);
       answered = λ m w g values u f h k. lists_given F tag lent m w cs rs b e r g values run (as_said (ListAll m w) r u refl) f h k;
     }
   where
-    as_said : (d : Call) (t : Reply) → c ≡ d → r ≡ t → Answered F tag lent b d t e
-    as_said d t u v = subst (λ (z : Reply). Answered F tag lent b d z e) v (subst (λ (z : Call). Answered F tag lent b z r e) u s)
+    as_said : (d : Call) (t : Reply) → c ≡ d → r ≡ t → Answered F.q F tag lent b d t e
+    as_said d t u v = subst (λ (z : Reply). Answered F.q F tag lent b d z e) v (subst (λ (z : Call). Answered F.q F tag lent b z r e) u s)
 
-whole_law : (F : Numbers) (tag lent : ℕ) (cs : List Call) (rs : List Reply) (e : Book) → Runs F tag lent unopened cs rs e → Law F tag lent cs rs e
+whole_law : (F : Numbers) (tag lent : ℕ) (cs : List Call) (rs : List Reply) (e : Book) → Runs F.q F tag lent unopened cs rs e → Law F tag lent cs rs e
 whole_law F tag lent cs rs e run =
     record {
       runs = run;
-      each = λ i c r h k. let u = up_to F tag lent unopened e cs rs i c r run h k in true_after F tag lent _ _ u.here u.next c r u.runs u.answered;
+      each = λ i c r h k. let u = up_to F.q F tag lent unopened e cs rs i c r run h k in true_after F tag lent _ _ u.here u.next c r u.runs u.answered;
     }
 
-pub blank_law : (F : Numbers) (tag lent n k : ℕ) (b e : Book) (cs : List Call) (os : List Answer) → b ≡ unopened → n ≡ k → Runs F tag lent b (take n cs) (map reply (take n os)) e → Law F tag lent (take k cs) (map reply (take k os)) e
+pub blank_law : (F : Numbers) (tag lent n k : ℕ) (b e : Book) (cs : List Call) (os : List (Result Outcome CallFault)) → b ≡ unopened → n ≡ k → Runs F.q F tag lent b (take n cs) (map reply (take n os)) e → Law F tag lent (take k cs) (map reply (take k os)) e
 blank_law F tag lent n k b e cs os u c run =
     whole_law F tag lent _ _ e
-    (subst (λ (i : ℕ). Runs F tag lent unopened (take i cs) (map reply (take i os)) e) c
-    (subst (λ (z : Book). Runs F tag lent z (take n cs) (map reply (take n os)) e) u run))
+    (subst (λ (i : ℕ). Runs F.q F tag lent unopened (take i cs) (map reply (take i os)) e) c
+    (subst (λ (z : Book). Runs F.q F tag lent z (take n cs) (map reply (take n os)) e) u run))
 
-pub same_rest : (xs ys : List Answer) (n k : ℕ) → n ≡ k → drop n xs ≡ drop n ys → drop k xs ≡ drop k ys
+pub same_rest : (xs ys : List (Result Outcome CallFault)) (n k : ℕ) → n ≡ k → drop n xs ≡ drop n ys → drop k xs ≡ drop k ys
 same_rest xs ys n k e h = subst (λ (i : ℕ). drop i xs ≡ drop i ys) e h

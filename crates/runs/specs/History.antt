@@ -81,20 +81,20 @@ pub record Recovers (F : Numbers) (acts : List Act) (items : List Candidate) : T
 -- After any run on a blank collection: a reading tells what the latest act at its place left there.
 abbrev pub ReadsTell : Type 0
 ReadsTell =
-    (F : Numbers) (tag lent p : ℕ) (cs : List Call) (rs : List Reply) (b e : Book) (x : Place)
-    → Runs F tag lent unopened cs rs b → Answered F tag lent b (Read p) (tells x) e → x ≡ unwrap_or (latest p (history cs rs)) Empty
+    (q : ℕ) (F : Numbers) (tag lent p : ℕ) (cs : List Call) (rs : List Reply) (b e : Book) (x : Place)
+    → Runs q F tag lent unopened cs rs b → Answered q F tag lent b (Read p) (tells x) e → x ≡ unwrap_or (latest p (history cs rs)) Empty
 
 -- A list that is given has all candidates that are near the values entered and not withdrawn since, and no others.
 abbrev pub ListsComplete : Type 0
 ListsComplete =
     (F : Numbers) (tag lent m w : ℕ) (cs : List Call) (rs : List Reply) (b e : Book) (items : List Candidate)
-    → Runs F tag lent unopened cs rs b → Answered F tag lent b (ListAll m w) (lists items) e → Recovers F (history cs rs) items
+    → Runs F.q F tag lent unopened cs rs b → Answered F.q F tag lent b (ListAll m w) (lists items) e → Recovers F (history cs rs) items
 
 -- A list is given whenever every place has a value, the result area has room for ℓ records, and the work area has what the setting needs.
 abbrev pub ListsGiven : Type 0
 ListsGiven =
     (F : Numbers) (tag lent m w : ℕ) (cs : List Call) (rs : List Reply) (b e : Book) (r : Reply) (g : Given) (values : List ℕ)
-    → Runs F tag lent unopened cs rs b → Answered F tag lent b (ListAll m w) r e
+    → Runs F.q F tag lent unopened cs rs b → Answered F.q F tag lent b (ListAll m w) r e
     → Full (history cs rs) g values → g.setting.list_limit ≤ m → work_of (length g.points) g.setting ≤ min w lent
     → (items : List Candidate) × (r ≡ lists items)
 
@@ -108,5 +108,5 @@ pub record TrueAfter (F : Numbers) (lent : ℕ) (acts : List Act) (c : Call) (r 
 -- The whole law of a run on a blank collection, whatever the calls: each call is answered by the book that the calls before it left, and each reading and
 -- listing tells the truth about the history before it.
 pub record Law (F : Numbers) (tag lent : ℕ) (cs : List Call) (rs : List Reply) (after : Book) : Type 0 where
-  pub runs : Runs F tag lent unopened cs rs after
+  pub runs : Runs F.q F tag lent unopened cs rs after
   pub each : (i : ℕ) (c : Call) (r : Reply) → slice_get cs i ≡ Some c → slice_get rs i ≡ Some r → TrueAfter F lent (history (take i cs) (take i rs)) c r

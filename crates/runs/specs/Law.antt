@@ -4,10 +4,8 @@ use Rattle.std.specs.Prelude.{◌≡◌, ℕ, min, List, [], ◌∷◌, take, So
 use Rattle.fields.specs.Numbers.{Numbers}
 use Rattle.areas.specs.Zeros.{AllZero}
 use Rattle.faults.specs.declared.Refusal.{Refusal}
-use Rattle.faults.specs.declared.CollectionFault.{CollectionFault}
 use Rattle.faults.specs.declared.ListingFault.{ListingFault}
-use Rattle.faults.specs.declared.SheetFault.{SheetFault}
-use Rattle.faults.specs.Faults.{collection_refusal, listing_refusal, sheet_refusal, sheet_byte}
+use Rattle.faults.specs.Faults.{listing_refusal}
 use Rattle.codes.specs.Opening.{given}
 use Rattle.collections.specs.declared.Place.{Place}
 use Rattle.collections.specs.Book.{Book, unopened, opened, Act, opening, entering, withdrawing, reading, Said, done, told, refused, Right}
@@ -20,8 +18,10 @@ use Rattle.listings.specs.Calls.{listing_fault}
 use Rattle.runs.specs.declared.Call.{Call}
 use Rattle.runs.specs.declared.Call.TheVariants.{Open, Load, Enter, Withdraw, Read, List as ListAll}
 use Rattle.runs.specs.declared.Found.{Found}
-use Rattle.runs.specs.declared.Answer.{Answer}
-use Rattle.runs.specs.declared.Answer.TheVariants.{Done, Told, Listed, Refused, NotLoaded, NotListed}
+use Rattle.runs.specs.declared.Outcome.{Outcome}
+use Rattle.runs.specs.declared.Outcome.TheVariants.{Done, Told, Listed}
+use Rattle.runs.specs.declared.CallFault.{CallFault}
+use Rattle.runs.specs.Faults.{call_refusal, call_byte}
 
 -- accepted, or told what a place has, or given the list of candidates, or refused with number, place and layer, and from loading also the sheet's byte
 pub data Reply : Type 0 where
@@ -33,29 +33,16 @@ pub data Reply : Type 0 where
 abbrev pub found : Found → List Candidate
 found x = take x.count x.records
 
-abbrev pub reply : Answer → Reply
-reply Done = accepted
-reply (Told x) = tells x
-reply (Listed x) = lists (found x)
-reply (Refused f) = refuses (collection_refusal f) None
-reply (NotLoaded f) = refuses (sheet_refusal f) (Some (sheet_byte f))
-reply (NotListed f) = refuses (listing_refusal f) None
+abbrev pub reply : Result Outcome CallFault → Reply
+reply (Ok Done) = accepted
+reply (Ok (Told x)) = tells x
+reply (Ok (Listed x)) = lists (found x)
+reply (Err f) = refuses (call_refusal f) (call_byte f)
 
-abbrev pub reply_to : {U : Type 0} → Result U CollectionFault → Reply
-reply_to (Ok _) = accepted
-reply_to (Err f) = refuses (collection_refusal f) None
-
-abbrev pub reply_to_loading : {U : Type 0} → Result U SheetFault → Reply
-reply_to_loading (Ok _) = accepted
-reply_to_loading (Err f) = refuses (sheet_refusal f) (Some (sheet_byte f))
-
-abbrev pub reply_to_reading : Result Place CollectionFault → Reply
-reply_to_reading (Ok x) = tells x
-reply_to_reading (Err f) = refuses (collection_refusal f) None
-
-abbrev pub reply_to_listing : Result ℕ ListingFault → List Candidate → Reply
-reply_to_listing (Ok n) records = lists (take n records)
-reply_to_listing (Err f) records = refuses (listing_refusal f) None
+-- what a listing answers, as a reply
+abbrev pub listing_reply : Result Found ListingFault → Reply
+listing_reply (Ok x) = lists (found x)
+listing_reply (Err f) = refuses (listing_refusal f) None
 
 -- what the book says, as a reply
 abbrev pub plain : Said → Reply
@@ -99,14 +86,15 @@ pub record ListedBy (F : Numbers) (before : Book) (m w : ℕ) (r : Reply) (after
   pub says : RightList F before (listing_fault F.q before (shares before) m w) r
   pub leaves : after ≡ before
 
--- One call against the book, over the field F with the sheet number tag, where a work area of so many numbers is lent
-abbrev pub Answered : Numbers → (tag lent : ℕ) → Book → Call → Reply → Book → Type 0
-Answered F tag lent b (Open o) r e = Acted F.q b (opening (given o)) r e
-Answered F tag lent b (Load bytes) r e = LoadedBy F.q tag b bytes.now r e
-Answered F tag lent b (Enter p v) r e = Acted F.q b (entering p v) r e
-Answered F tag lent b (Withdraw p) r e = Acted F.q b (withdrawing p) r e
-Answered F tag lent b (Read p) r e = Acted F.q b (reading p) r e
-Answered F tag lent b (ListAll m w) r e = ListedBy F b m (min w lent) r e
+-- One call against the book, in a field of q elements with the sheet number tag, where lists are over the field F and a work area of so many numbers is
+-- lent. A program has q ≡ F.q; nothing that is no listing speaks of F.
+abbrev pub Answered : (q : ℕ) → Numbers → (tag lent : ℕ) → Book → Call → Reply → Book → Type 0
+Answered q F tag lent b (Open o) r e = Acted q b (opening (given o)) r e
+Answered q F tag lent b (Load bytes) r e = LoadedBy q tag b bytes.now r e
+Answered q F tag lent b (Enter p v) r e = Acted q b (entering p v) r e
+Answered q F tag lent b (Withdraw p) r e = Acted q b (withdrawing p) r e
+Answered q F tag lent b (Read p) r e = Acted q b (reading p) r e
+Answered q F tag lent b (ListAll m w) r e = ListedBy F b m (min w lent) r e
 
 -- only a listing works in the work area, and leaves zeros
 abbrev pub WorkAfter : Call → (before after : List ℕ) → Type 0
@@ -118,7 +106,7 @@ WorkAfter (Read p) before after = after ≡ before
 WorkAfter (ListAll m w) before after = AllZero after
 
 -- calls in their order, with the reply to each
-pub data Runs (F : Numbers) (tag lent : ℕ) : Book → List Call → List Reply → Book → Type 0 where
-  stop : {b : Book} → Runs F tag lent b [] [] b
+pub data Runs (q : ℕ) (F : Numbers) (tag lent : ℕ) : Book → List Call → List Reply → Book → Type 0 where
+  stop : {b : Book} → Runs q F tag lent b [] [] b
   go : {b m e : Book} {c : Call} {cs : List Call} {r : Reply} {rs : List Reply}
-      → Answered F tag lent b c r m → Runs F tag lent m cs rs e → Runs F tag lent b (c ∷ cs) (r ∷ rs) e
+      → Answered q F tag lent b c r m → Runs q F tag lent m cs rs e → Runs q F tag lent b (c ∷ cs) (r ∷ rs) e

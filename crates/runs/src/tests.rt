@@ -1,8 +1,8 @@
 use crate::calls::{perform, run_blank};
-use crate::{Answer, Call};
+use crate::{Answer, Call, CallFault, Outcome};
 use candidates::Candidate;
 use collections::Collection;
-use faults::{CollectionFault, Layer, ListingFault, Refusal};
+use faults::{Layer, Refusal};
 use fields::Mod7;
 
 // Six places modulo 7, k = 2, τ = 3, s = 2, ℓ = 4.
@@ -11,117 +11,73 @@ const SHEET: [u8; 45] = [
     0, 5, 0, 5, 0, 1, 0, 6, 0, 6, 0, 1, 0, 0,
 ];
 
-fn layer(l: Layer) -> u8 {
-    match l {
-        Layer::Code => 1,
-        Layer::Collection => 2,
-        Layer::Listing => 3,
-        Layer::Sheet => 4,
+fn refusal(number: u8, place: usize, layer: Layer) -> Refusal {
+    Refusal {
+        number,
+        place,
+        layer,
     }
 }
 
-fn parts(r: Refusal) -> (u8, usize, u8) {
-    (r.number, r.place, layer(r.layer))
-}
-
-// Number, place and layer of an answer, and the byte of one from a sheet; the number is 0 where nothing is refused.
-fn told(a: Answer) -> (u8, usize, u8, u128) {
-    match a {
-        Answer::Refused(f) => {
-            let (number, place, layer) = parts(f.refusal());
-            (number, place, layer, 0)
-        }
-        Answer::NotLoaded(f) => {
-            let (number, place, layer) = parts(f.refusal());
-            (number, place, layer, f.byte())
-        }
-        Answer::NotListed(f) => {
-            let (number, place, layer) = parts(f.refusal());
-            (number, place, layer, 0)
-        }
-        Answer::Done => (0, 0, 0, 0),
-        Answer::Told(_) => (0, 0, 0, 1),
-        Answer::Listed(_) => (0, 0, 0, 2),
+// What refuses a call, with the sheet's byte of a refused loading.
+fn refused(answer: Answer) -> Option<(Refusal, Option<u128>)> {
+    match answer {
+        Ok(_) => None,
+        Err(CallFault::Sheet(f)) => Some((f.refusal(), Some(f.byte()))),
+        Err(f) => Some((f.refusal(), None)),
     }
 }
 
-// What loading the sheet answers with two bytes changed.
-fn damaged(at: usize, byte: u8, also: usize, other: u8) -> (u8, usize, u8, u128) {
+fn load(c: &mut Collection<Mod7>, sheet: &[u8]) -> Option<(Refusal, Option<u128>)> {
+    refused(perform(c, Call::Load(sheet), &mut []))
+}
+
+// What loading the sheet is refused with where some of its bytes are others.
+fn damaged(others: &[(usize, u8)]) -> Option<(Refusal, Option<u128>)> {
     let mut sheet = SHEET;
-    if at < 45 {
-        sheet[at] = byte;
+    for (at, byte) in others {
+        if *at < 45 {
+            sheet[*at] = *byte;
+        }
     }
-    if also < 45 {
-        sheet[also] = other;
-    }
-    let mut c = Collection::<Mod7>::new();
-    told(perform::<Mod7>(&mut c, Call::Load(&sheet), &mut []))
-}
-
-// What loading the sheet twice answers.
-fn loaded_twice() -> (u8, usize, u8, u128) {
-    let mut c = Collection::<Mod7>::new();
-    let _ = perform::<Mod7>(&mut c, Call::Load(&SHEET), &mut []);
-    told(perform::<Mod7>(&mut c, Call::Load(&SHEET), &mut []))
-}
-
-fn no_places() -> (u8, usize, u8, u128) {
-    let mut c = Collection::<Mod7>::new();
-    told(perform::<Mod7>(&mut c, Call::Load(&[1, 0, 6, 1, 0, 2, 3, 2, 4]), &mut []))
-}
-
-fn called(r: Result<(), CollectionFault>) -> (u8, usize, u8) {
-    match r {
-        Ok(()) => (0, 0, 0),
-        Err(f) => parts(f.refusal()),
-    }
-}
-
-fn listed(r: Result<(), ListingFault>) -> (u8, usize, u8) {
-    match r {
-        Ok(()) => (0, 0, 0),
-        Err(f) => parts(f.refusal()),
-    }
-}
-
-// As above, with the count of bytes where nothing is refused.
-fn counted(r: Result<usize, ListingFault>) -> (u8, usize, u8) {
-    match r {
-        Ok(count) => (0, count, 0),
-        Err(f) => parts(f.refusal()),
-    }
+    load(&mut Collection::new(), &sheet)
 }
 
 #[test]
 fn sheets_are_refused(rt: HostRuntime) {
-    assert!(rt; damaged(99, 0, 99, 0) == (0, 0, 0, 0));
-    assert!(rt; damaged(0, 2, 3, 9) == (13, 0, 4, 0));
-    assert!(rt; damaged(2, 44, 3, 9) == (14, 1, 4, 1));
-    assert!(rt; damaged(3, 2, 5, 0) == (15, 3, 4, 3));
-    assert!(rt; no_places() == (1, 0, 1, 4));
-    assert!(rt; damaged(5, 6, 10, 0) == (2, 0, 1, 5));
-    assert!(rt; damaged(34, 7, 16, 1) == (3, 4, 1, 33));
-    assert!(rt; damaged(16, 1, 12, 0) == (4, 1, 1, 15));
-    assert!(rt; damaged(18, 0, 7, 0) == (5, 1, 1, 17));
-    assert!(rt; damaged(8, 3, 14, 9) == (6, 0, 1, 6));
-    assert!(rt; damaged(32, 7, 99, 0) == (8, 3, 2, 31));
-    assert!(rt; damaged(31, 255, 32, 255) == (0, 0, 0, 0));
-    assert!(rt; loaded_twice() == (21, 0, 2, 0));
+    assert!(rt; damaged(&[]) == None);
+    assert!(rt; damaged(&[(0, 2), (3, 9)]) == Some((refusal(13, 0, Layer::Sheet), Some(0))));
+    assert!(rt; damaged(&[(2, 44), (3, 9)]) == Some((refusal(14, 1, Layer::Sheet), Some(1))));
+    assert!(rt; damaged(&[(3, 2), (5, 0)]) == Some((refusal(15, 3, Layer::Sheet), Some(3))));
+    let no_places = [1, 0, 6, 1, 0, 2, 3, 2, 4];
+    assert!(rt;
+        load(&mut Collection::new(), &no_places) == Some((refusal(1, 0, Layer::Code), Some(4)))
+    );
+    assert!(rt; damaged(&[(5, 6), (10, 0)]) == Some((refusal(2, 0, Layer::Code), Some(5))));
+    assert!(rt; damaged(&[(34, 7), (16, 1)]) == Some((refusal(3, 4, Layer::Code), Some(33))));
+    assert!(rt; damaged(&[(16, 1), (12, 0)]) == Some((refusal(4, 1, Layer::Code), Some(15))));
+    assert!(rt; damaged(&[(18, 0), (7, 0)]) == Some((refusal(5, 1, Layer::Code), Some(17))));
+    assert!(rt; damaged(&[(8, 3), (14, 9)]) == Some((refusal(6, 0, Layer::Code), Some(6))));
+    assert!(rt; damaged(&[(32, 7)]) == Some((refusal(8, 3, Layer::Collection), Some(31))));
+    assert!(rt; damaged(&[(31, 255), (32, 255)]) == None);
+    let mut c = Collection::new();
+    assert!(rt; load(&mut c, &SHEET) == None);
+    assert!(rt; load(&mut c, &SHEET) == Some((refusal(21, 0, Layer::Collection), Some(0))));
 }
 
 #[test]
 fn calls_are_refused(rt: HostRuntime) {
     let mut c = Collection::<Mod7>::new();
-    assert!(rt; called(c.enter(9, 9)) == (20, 0, 2));
-    assert!(rt; called(c.withdraw(9)) == (20, 0, 2));
-    let _ = transfer::load(&mut c, &SHEET);
-    assert!(rt; called(c.enter(6, 7)) == (7, 6, 2));
-    assert!(rt; called(c.enter(3, 7)) == (8, 3, 2));
-    assert!(rt; called(c.enter(3, 4)) == (22, 3, 2));
-    assert!(rt; called(c.enter(3, 5)) == (0, 0, 0));
-    assert!(rt; called(c.withdraw(6)) == (7, 6, 2));
-    assert!(rt; called(c.withdraw(3)) == (0, 0, 0));
-    assert!(rt; called(c.withdraw(3)) == (23, 3, 2));
+    assert!(rt; c.enter(9, 9).map_err(|f| f.refusal()) == Err(refusal(20, 0, Layer::Collection)));
+    assert!(rt; c.withdraw(9).map_err(|f| f.refusal()) == Err(refusal(20, 0, Layer::Collection)));
+    let _ = load(&mut c, &SHEET);
+    assert!(rt; c.enter(6, 7).map_err(|f| f.refusal()) == Err(refusal(7, 6, Layer::Collection)));
+    assert!(rt; c.enter(3, 7).map_err(|f| f.refusal()) == Err(refusal(8, 3, Layer::Collection)));
+    assert!(rt; c.enter(3, 4).map_err(|f| f.refusal()) == Err(refusal(22, 3, Layer::Collection)));
+    assert!(rt; c.enter(3, 5).map_err(|f| f.refusal()) == Ok(()));
+    assert!(rt; c.withdraw(6).map_err(|f| f.refusal()) == Err(refusal(7, 6, Layer::Collection)));
+    assert!(rt; c.withdraw(3).map_err(|f| f.refusal()) == Ok(()));
+    assert!(rt; c.withdraw(3).map_err(|f| f.refusal()) == Err(refusal(23, 3, Layer::Collection)));
 }
 
 #[test]
@@ -129,19 +85,33 @@ fn areas_are_refused(rt: HostRuntime) {
     let mut c = Collection::<Mod7>::new();
     let mut word = [9; 6];
     let mut bytes = [9; 46];
-    assert!(rt; listed(c.issue(&[1, 1], &mut word)) == (20, 0, 2));
-    assert!(rt; counted(transfer::write(&c, &mut bytes)) == (20, 0, 2));
-    let _ = transfer::load(&mut c, &SHEET);
-    assert!(rt; listed(c.issue(&[9, 1, 1], &mut word)) == (17, 0, 3));
-    assert!(rt; listed(c.issue(&[1, 7], &mut word[0..5])) == (8, 1, 3));
-    assert!(rt; listed(c.issue(&[1, 1], &mut word[0..5])) == (10, 0, 3));
-    assert!(rt; counted(transfer::write(&c, &mut bytes[0..44])) == (10, 0, 3));
-    assert!(rt; counted(transfer::write(&c, &mut bytes)) == (0, 45, 0));
+    assert!(rt;
+        c.issue(&[1, 1], &mut word).map_err(|f| f.refusal())
+            == Err(refusal(20, 0, Layer::Collection))
+    );
+    assert!(rt;
+        transfer::write(&c, &mut bytes).map_err(|f| f.refusal())
+            == Err(refusal(20, 0, Layer::Collection))
+    );
+    let _ = load(&mut c, &SHEET);
+    assert!(rt;
+        c.issue(&[9, 1, 1], &mut word).map_err(|f| f.refusal())
+            == Err(refusal(17, 0, Layer::Listing))
+    );
+    assert!(rt;
+        c.issue(&[1, 7], &mut word[0..5]).map_err(|f| f.refusal())
+            == Err(refusal(8, 1, Layer::Listing))
+    );
+    assert!(rt;
+        c.issue(&[1, 1], &mut word[0..5]).map_err(|f| f.refusal())
+            == Err(refusal(10, 0, Layer::Listing))
+    );
+    assert!(rt;
+        transfer::write(&c, &mut bytes[0..44]).map_err(|f| f.refusal())
+            == Err(refusal(10, 0, Layer::Listing))
+    );
+    assert!(rt; transfer::write(&c, &mut bytes).map_err(|f| f.refusal()) == Ok(45));
     assert!(rt; bytes[0..45] == SHEET[0..45] && bytes[45] == 9);
-}
-
-fn area() -> [u16; 32000] {
-    [0; 32000]
 }
 
 // Distance and message of a record.
@@ -150,10 +120,10 @@ fn record(c: Candidate) -> (u8, u16, u16) {
 }
 
 // The count of a list, and its first two records.
-fn pair(a: Answer) -> (usize, (u8, u16, u16), (u8, u16, u16)) {
-    match a {
-        Answer::Listed(f) => (f.count, record(f.records[0]), record(f.records[1])),
-        _ => (99, (0, 0, 0), (0, 0, 0)),
+fn pair(answer: Answer) -> Option<(usize, (u8, u16, u16), (u8, u16, u16))> {
+    match answer {
+        Ok(Outcome::Listed(f)) => Some((f.count, record(f.records[0]), record(f.records[1]))),
+        _ => None,
     }
 }
 
@@ -179,13 +149,13 @@ fn lists_are_given_and_refused(rt: HostRuntime) {
         Call::Withdraw { place: 3 },
         all,
     ];
-    let mut work = area();
-    let mut answers = [Answer::Done; 7];
+    let mut work = [0; 32000];
+    let mut answers = [Ok(Outcome::Done); 7];
     let _ = run_blank::<Mod7>(&calls, &mut answers, &mut work);
-    assert!(rt; told(answers[0]) == (20, 0, 2, 0));
-    assert!(rt; told(answers[1]) == (0, 0, 0, 0));
-    assert!(rt; pair(answers[2]) == (2, (2, 0, 0), (3, 1, 1)));
-    assert!(rt; told(answers[3]) == (10, 0, 3, 0));
-    assert!(rt; told(answers[4]) == (11, 0, 3, 0));
-    assert!(rt; told(answers[6]) == (24, 3, 3, 0));
+    assert!(rt; refused(answers[0]) == Some((refusal(20, 0, Layer::Collection), None)));
+    assert!(rt; refused(answers[1]) == None);
+    assert!(rt; pair(answers[2]) == Some((2, (2, 0, 0), (3, 1, 1))));
+    assert!(rt; refused(answers[3]) == Some((refusal(10, 0, Layer::Listing), None)));
+    assert!(rt; refused(answers[4]) == Some((refusal(11, 0, Layer::Listing), None)));
+    assert!(rt; refused(answers[6]) == Some((refusal(24, 3, Layer::Listing), None)));
 }

@@ -1,10 +1,10 @@
--- Bytes that pass the checks make a reader.
-use Rattle.std.proofs.Common.{◌≡◌, ℕ, ◌+◌, ◌*◌, ◌/◌, ◌≤◌, Bool, false, not, ◌||◌, eqb, ltb, List, length, get_or, drop, None, Option, ap, ◌∙◌, arith}
+-- Bytes that pass the checks have no fault.
+use Rattle.std.proofs.Common.{◌≡◌, ℕ, ◌+◌, ◌*◌, ◌≤◌, Bool, false, not, ◌||◌, eqb, ltb, List, length, get_or, None, Option, ap, ◌∙◌, arith}
 use Rattle.std.proofs.lemmas.Bool.Decides.{nat_tests}
 use Rattle.faults.specs.declared.SheetFault.{SheetFault}
 use Rattle.faults.specs.declared.SheetFault.TheVariants.{Version, Length}
 use Rattle.codes.specs.First.{or_else, when}
-use Rattle.sheets.specs.Sheet.{Sheet, sheet_of, two, version_fault, length_fault, header_fault}
+use Rattle.sheets.specs.Sheet.{two, version_fault, length_fault, header_fault}
 
 first_good : (len version : ℕ) → 9 ≤ len → version ≡ 1 → (ltb len 9 || not (eqb version 1)) ≡ false
 first_good len version h e = grind (arith, nat_tests)
@@ -18,11 +18,3 @@ no_fault bs long version told whole =
     let l : length_fault bs ≡ None =
     ap (λ (t : Bool). when t Length) (both_good (two (get_or bs 1 0) (get_or bs 2 0)) (6 + 6 * get_or bs 4 0) (length bs) (9 + 6 * get_or bs 4 0) told whole) in
     ap (λ (o : Option SheetFault). or_else o (length_fault bs)) v ∙ l
-
-abbrev from_parts : List ℕ → ℕ → List ℕ → Sheet
-from_parts bs n es = record { field = get_or bs 3 0; count = n; threshold = (sheet_of bs).threshold; setting = (sheet_of bs).setting; entries = es }
-
-pub is_sheet : (bs es : List ℕ) → es ≡ drop 9 bs → length es ≡ 6 * get_or bs 4 0 → from_parts bs (length es / 6) es ≡ sheet_of bs
-is_sheet bs es e h =
-    let n : length es / 6 ≡ get_or bs 4 0 = omega arith in
-    ap (λ (k : ℕ). from_parts bs k es) n ∙ ap (from_parts bs (get_or bs 4 0)) e

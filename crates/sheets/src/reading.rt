@@ -1,7 +1,7 @@
 ghost use Rattle.std.specs.Prelude.{◌≡◌, ◌+◌, ◌*◌, ◌/◌, ◌≤◌, length, take, IfOk};
 ghost use Rattle.codes.specs.Opening.{fault_of};
 ghost use Rattle.sheets.specs.Sheet.{number as number_in, column as column_in, share_in, shares_in, given_in, header_fault, field_fault};
-ghost use Rattle.sheets.specs.Reading.{meant, Short, Reads};
+ghost use Rattle.sheets.specs.Reading.{meant, Reads};
 
 use crate::Reader;
 use codes::Setting;
@@ -11,35 +11,11 @@ use faults::SheetFault;
 // What stands for the share of an empty place.
 pub const EMPTY: u16 = 0xFFFF;
 
-// The number of the entry of place p that begins at the entry's byte `part`.
-fn number(entries: &[u8], part: usize, p: usize) -> u16
-    requires part_bound { part ≤ 4 }
-    requires p_in_bounds { 6 * p + 6 ≤ length entries.now }
-    ensures { result ≡ number_in entries.now part p }
-{
-    let at = 6 * p + part;
-    u16::from_be_bytes([entries[at], entries[at + 1]])
-}
-
 // The share that a number of a sheet means.
 fn share(number: u16) -> Option<u16>
     ensures { result ≡ share_in number }
 {
     if number == EMPTY { None } else { Some(number) }
-}
-
-// One number of each entry, in place order.
-fn column(entries: &[u8], part: usize) -> [u16; 255]
-    requires part_bound { part ≤ 4 }
-    requires entries_len_bound { length entries.now ≤ 6 * 255 }
-    ensures length { length result ≡ 255 }
-    ensures front { take (length entries.now / 6) result ≡ column_in entries.now part (length entries.now / 6) }
-{
-    let mut numbers = [0; 255];
-    for p in 0..entries.len() / 6 {
-        numbers[p] = number(entries, part, p);
-    }
-    numbers
 }
 
 impl<'a> Reader<'a> {
@@ -105,28 +81,59 @@ impl<'a> Reader<'a> {
         self.threshold
     }
 
+    // The number of places.
+    pub fn places(&self) -> usize
+        ensures is { result ≡ (meant self.now).count }
+        ensures few { result ≤ 255 }
+    {
+        self.entries.len() / 6
+    }
+
     pub fn setting(&self) -> Setting
         ensures { result ≡ (meant self.now).setting }
     {
         self.setting
     }
 
-    // The points of all places; what stands behind them means nothing.
+    // The points of all places; what stands behind them means nothing: a fixed array, since a reader has no heap.
     pub fn points(&self) -> [u16; 255]
-        requires { Short self.now }
         ensures length { length result ≡ 255 }
         ensures front { take (meant self.now).count result ≡ (given_in (meant self.now)).points }
     {
-        column(self.entries, 0)
+        self.column(0)
     }
 
     // The multipliers of all places; what stands behind them means nothing.
     pub fn multipliers(&self) -> [u16; 255]
-        requires { Short self.now }
         ensures length { length result ≡ 255 }
         ensures front { take (meant self.now).count result ≡ (given_in (meant self.now)).multipliers }
     {
-        column(self.entries, 2)
+        self.column(2)
+    }
+}
+
+impl Reader<'_> {
+    // The number of the entry of place p that begins at the entry's byte `part`.
+    fn number(&self, part: usize, p: usize) -> u16
+        requires part_bound { part ≤ 4 }
+        requires p_in_bounds { 6 * p + 6 ≤ length self.now.entries.now }
+        ensures { result ≡ number_in self.now.entries.now part p }
+    {
+        let at = 6 * p + part;
+        u16::from_be_bytes([self.entries[at], self.entries[at + 1]])
+    }
+
+    // One number of each entry, in place order.
+    fn column(&self, part: usize) -> [u16; 255]
+        requires { part ≤ 4 }
+        ensures length { length result ≡ 255 }
+        ensures front { take (meant self.now).count result ≡ column_in self.now.entries.now part (meant self.now).count }
+    {
+        let mut numbers = [0; 255];
+        for (p, number) in numbers[..self.places()].iter_mut().enumerate() {
+            *number = self.number(part, p);
+        }
+        numbers
     }
 }
 
@@ -134,13 +141,13 @@ impl Source for Reader<'_> {
     ghost told = { λ r. shares_in (meant r) };
 
     fn count(&self) -> usize {
-        self.entries.len() / 6
+        self.places()
     }
 
     fn place(&self, i: usize) -> Option<u16> {
-        if i >= self.entries.len() / 6 {
+        if i >= self.places() {
             return None;
         }
-        share(number(self.entries, 4, i))
+        share(self.number(4, i))
     }
 }

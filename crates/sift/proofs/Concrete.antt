@@ -1,5 +1,5 @@
 -- The facts that the sift asks for, at lists that are written out: by computed tests.
-use Rattle.std.proofs.Common.{◌≡◌, ℕ, suc, ◌+◌, ◌<◌, ◌≤◌, Bool, true, false, not, T, eqb, ltb, ◌≢◌, List, length, get_or, sym, subst, arith, ltb→lt, T_not}
+use Rattle.std.proofs.Common.{ℕ, suc, ◌+◌, ◌<◌, ◌≤◌, not, T, eqb, ltb, List, length, get_or, subst, arith, ltb→lt, T_not}
 use lib.Dec.{eqb_refl}
 use Rattle.algebra.specs.Poly.{conv, Below}
 use Rattle.algebra.specs.Residue.{all_below, at_below}
@@ -9,7 +9,7 @@ use Rattle.fields.specs.Numbers.{Numbers, AllBelow, ring_of}
 use Rattle.polynomials.specs.Series.{poly}
 use Rattle.polynomials.proofs.Readings.{poly_past}
 use Rattle.sift.specs.Interpolation.{Distinct}
-use Rattle.sift.specs.Received.{NonZero, Placed}
+use Rattle.sift.specs.Received.{NonZero}
 
 pub below_by : (q : ℕ) (xs : List ℕ) → T (all_below (λ k. ltb (get_or xs k 0) q) (length xs)) → AllBelow q xs
 below_by q xs t k h = ltb→lt (get_or xs k 0) q (at_below (λ k. ltb (get_or xs k 0) q) (length xs) t k h)

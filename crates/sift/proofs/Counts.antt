@@ -1,5 +1,7 @@
 -- Loops that write a list place by place, and loops that count marked places.
-use Rattle.std.proofs.Common.{◌≡◌, ℕ, zero, suc, ◌+◌, ◌<◌, ◌≤◌, Bool, true, false, cond, List, length, get_or, set, sym, refl, ap, ◌∙◌, subst, add-one, arith, get_or-set_other, get_or-set_same}
+use Rattle.std.proofs.Common.{◌≡◌, ℕ, zero, suc, ◌+◌, ◌<◌, ◌≤◌, Bool, true, false, cond, List, length, get_or, take, set, count_by, sym, refl, ap, ◌∙◌, subst, add-one, add-zero, arith, get_or-set_other, get_or-set_same}
+use Rattle.std.proofs.lemmas.List.{take_all}
+use Rattle.std.proofs.lemmas.List.Sums.{count_by_more_yes, count_by_more_no}
 use native.Mathlib.Decide.{ℕ_discrete}
 use Rattle.algebra.specs.Sums.{count}
 
@@ -28,3 +30,21 @@ count_le (suc n) b = go (b n) (count_le n b)
     go : (t : Bool) → count n b ≤ n → count n b + cond t 1 0 ≤ suc n
     go true h = omega arith
     go false h = omega arith
+
+-- the marked items are as many as the marked places
+count_taken : (p : ℕ → Bool) (xs : List ℕ) (i : ℕ) → i ≤ length xs → count_by p (take i xs) ≡ count i (λ j. p (get_or xs j 0))
+unfolding count
+count_taken p xs zero h = refl
+count_taken p xs (suc i) h = go (p (get_or xs i 0)) refl (count_taken p xs i (omega arith))
+  where
+    go : (t : Bool) → p (get_or xs i 0) ≡ t → count_by p (take i xs) ≡ count i (λ j. p (get_or xs j 0))
+        → count_by p (take (suc i) xs) ≡ count i (λ j. p (get_or xs j 0)) + cond (p (get_or xs i 0)) 1 0
+    go true e before =
+        ap (λ (n : ℕ). count_by p (take n xs)) (sym (add-one i)) ∙ count_by_more_yes p xs i 0 (omega arith) e
+        ∙ ap (λ (n : ℕ). n + 1) before ∙ ap (λ (t : Bool). count i (λ j. p (get_or xs j 0)) + cond t 1 0) (sym e)
+    go false e before =
+        ap (λ (n : ℕ). count_by p (take n xs)) (sym (add-one i)) ∙ count_by_more_no p xs i 0 (omega arith) e
+        ∙ before ∙ sym (add-zero _) ∙ ap (λ (t : Bool). count i (λ j. p (get_or xs j 0)) + cond t 1 0) (sym e)
+
+pub count_marked : (p : ℕ → Bool) (xs : List ℕ) → count_by p xs ≡ count (length xs) (λ j. p (get_or xs j 0))
+count_marked p xs = ap (count_by p) (sym (take_all (length xs) xs (omega arith))) ∙ count_taken p xs (length xs) (omega arith)

@@ -1,5 +1,5 @@
 -- What was received has a code.
-use Rattle.std.proofs.Common.{◌≡◌, ℕ, ◌<◌, List, length, get_or, refl, arith}
+use Rattle.std.proofs.Common.{ℕ, List, length, get_or, refl, arith}
 use Rattle.decoding.specs.Code.{Code}
 use Rattle.fields.specs.Numbers.{Numbers, elem, field_of, elem_inj}
 use Rattle.polynomials.proofs.Readings.{all_at}

@@ -1,13 +1,13 @@
 -- The turns of the loops that gather places, write a codeword and compare it.
-use Rattle.std.proofs.Common.{◌≡◌, ℕ, suc, ◌+◌, ◌<◌, ◌≤◌, Bool, true, false, cond, eqb, ◌≢◌, List, length, get_or, set, sym, refl, ap, ◌∙◌, subst, ap₂, arith, get_or-set_other, get_or-set_same, eq-eqb, ne_eqb}
+use Rattle.std.proofs.Common.{◌≡◌, ℕ, ◌+◌, ◌<◌, ◌≤◌, Bool, true, false, cond, eqb, ◌≢◌, List, length, get_or, set, sym, refl, ap, ◌∙◌, subst, arith, get_or-set_other, get_or-set_same, eq-eqb, ne_eqb}
 use native.Mathlib.Decide.{ℕ_discrete, dec_lt}
 use Rattle.algebra.specs.Sums.{count}
-use Rattle.fields.specs.Numbers.{Numbers, AllBelow, Element, elem, pos, times, elem_mul}
+use Rattle.fields.specs.Numbers.{Numbers, AllBelow, elem, times, elem_mul}
 use Rattle.polynomials.specs.Series.{poly, value}
 use Rattle.polynomials.proofs.Readings.{all_at}
 use Rattle.sift.specs.Received.{Ends}
 use Rattle.sift.specs.Roots.{vanishes}
-use Rattle.sift.specs.Reading.{Places, Gathered, Issued, differs}
+use Rattle.sift.specs.Reading.{Places, Gathered, differs}
 use Rattle.sift.proofs.Counts.{each_more, count_none, count_more}
 
 -- one place more

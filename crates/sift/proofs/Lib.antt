@@ -6,3 +6,4 @@ pub mod Recovery
 pub mod Outcome
 pub mod Described
 pub mod Concrete
+pub mod Sieves

@@ -1,5 +1,5 @@
 -- Newton's rule: a polynomial that has the right values at the first points, and one point more.
-use Rattle.std.proofs.Common.{◌≡◌, ℕ, suc, ◌+◌, ◌-◌, ◌<◌, ◌≤◌, true, ◌≢◌, List, [], ◌∷◌, length, get_or, set, sym, refl, ap, ◌∙◌, subst, ap₂, add-one, arith}
+use Rattle.std.proofs.Common.{◌≡◌, ℕ, suc, ◌+◌, ◌-◌, ◌<◌, ◌≤◌, ◌≢◌, List, [], ◌∷◌, length, get_or, set, sym, refl, ap, ◌∙◌, subst, ap₂, arith}
 use native.Mathlib.Decide.{ℕ_discrete}
 use Rattle.algebra.specs.Ring.{Ring}
 use Rattle.algebra.specs.Field.{Field}
@@ -7,9 +7,9 @@ use Rattle.algebra.specs.Poly.{conv, padd, scale, pzero, lin, Below, at}
 use Rattle.algebra.specs.Solve.{ring}
 use Rattle.algebra.specs.PolyForms.{forms}
 use Rattle.algebra.specs.RingLaws as L
-use Rattle.algebra.proofs.Eval.{below_add, below_weaken, ev_add, ev_scale, ev_more, ev_zero}
+use Rattle.algebra.proofs.Eval.{below_add, below_weaken, ev_add, ev_scale, ev_more}
 use Rattle.algebra.proofs.Roots.{id_hom}
-use Rattle.algebra.specs.Sums.{count, all, prod, Distinct}
+use Rattle.algebra.specs.Sums.{count, all, Distinct}
 use Rattle.algebra.specs.Lagrange.{locator}
 use Rattle.algebra.proofs.Lagrange.{count_all}
 use Rattle.algebra.proofs.Products.{locator_below, locator_at, prod_zero, prod_nonzero}
@@ -117,11 +117,11 @@ module _ (F : Numbers) where
 
   module _ {αs ys : List ℕ} {i : ℕ} {out node : List ℕ} (n : Newton αs ys i out node) where
     -- the product so far has no root at the next point
-    pub newton_apart : AllBelow F.q αs → Apart αs → i < length αs → length αs < length node
-        → value F (length node) (poly F node) (get_or αs i 0) ≢ elem F 0
-    newton_apart h apart l u e =
+    pub newton_apart : (x : ℕ) → x ≡ get_or αs i 0 → AllBelow F.q αs → Apart αs → i < length αs → length αs < length node
+        → value F (length node) (poly F node) x ≢ elem F 0
+    newton_apart x ex h apart l u e =
         node_nonzero (field_of F) (poly F αs) (length αs) i (length node) (points_apart αs h apart) l (omega arith)
-        (ap₂ (λ a p. at (ring_of F) a (length node) p) (poly_at F αs i) (sym n.product.is) ∙ e)
+        (ap₂ (λ a p. at (ring_of F) a (length node) p) (poly_at F αs i ∙ ap (elem F) (sym ex)) (sym n.product.is) ∙ e)
 
     pub newton_top : length αs < length node → i < length αs → get_or node (length node - 1) 0 ≡ 0
     newton_top u l =
@@ -129,13 +129,13 @@ module _ (F : Numbers) where
         (sym (poly_at F node (length node - 1)) ∙ ap (λ (f : ℕ → Element F). f (length node - 1)) n.product.is
         ∙ node_below (field_of F) (poly F αs) i (length node - 1) (omega arith))
 
-    pub newton_turn : (c : ℕ) (out' node' : List ℕ) → i < length αs → length αs < length node → length node ≤ length out
+    newton_step : (c : ℕ) (out' node' : List ℕ) → i < length αs → length αs < length node → length node ≤ length out
         → length out' ≡ length out
         → plus F (value F (length out) (poly F out) (get_or αs i 0)) (times F (elem F c) (value F (length node) (poly F node) (get_or αs i 0))) ≡ elem F (get_or ys i 0)
         → Reads F out' (plus_multiple F (poly F out) c (poly F node))
         → Reads F node' (conv (ring_of F) (lin (ring_of F) (elem F (get_or αs i 0))) (poly F node))
         → Newton αs ys (i + 1) out' node'
-    newton_turn c out' node' l u w same e ro rn =
+    newton_step c out' node' l u w same e ro rn =
         let R = ring_of F in
         let α = poly F αs in
         let N : ℕ → Element F = locator R i all α in
@@ -165,6 +165,17 @@ module _ (F : Numbers) where
         here : plus F (at (ring_of F) (poly F αs i) (length out) (poly F out)) (times F (elem F c) (at (ring_of F) (poly F αs i) (length out) (locator (ring_of F) i all (poly F αs)))) ≡ poly F ys i
         here =
             ap₂ (λ a b. plus F (at (ring_of F) a (length out) (poly F out)) (times F (elem F c) b)) (poly_at F αs i) wider ∙ e ∙ sym (poly_at F ys i)
+
+    pub newton_turn : (x y c : ℕ) (out' node' : List ℕ) → x ≡ get_or αs i 0 → y ≡ get_or ys i 0 → i < length αs → length αs < length node → length node ≤ length out
+        → length out' ≡ length out
+        → plus F (value F (length out) (poly F out) x) (times F (elem F c) (value F (length node) (poly F node) x)) ≡ elem F y
+        → Reads F out' (plus_multiple F (poly F out) c (poly F node))
+        → Reads F node' (conv (ring_of F) (lin (ring_of F) (elem F x)) (poly F node))
+        → Newton αs ys (i + 1) out' node'
+    newton_turn x y c out' node' ex ey l u w same e ro rn =
+        newton_step c out' node' l u w same
+        (ap (λ (a : ℕ). plus F (value F (length out) (poly F out) a) (times F (elem F c) (value F (length node) (poly F node) a))) (sym ex) ∙ e ∙ ap (elem F) ey)
+        ro (become rn (ap (λ (a : ℕ). conv (ring_of F) (lin (ring_of F) (elem F a)) (poly F node)) ex))
 
     pub newton_done : AllBelow F.q αs → Apart αs → i ≡ length αs → length αs ≤ length out → Interpolates F αs ys out
     newton_done h apart e w =

@@ -1,7 +1,7 @@
 -- What the sift answers: the word that passes, or that none does.
-use Rattle.std.proofs.Common.{◌≡◌, ℕ, suc, ◌+◌, ◌-◌, ◌<◌, ◌≤◌, Bool, true, false, cond, ◌≢◌, List, length, get_or, sym, refl, ap, ◌∙◌, subst, ap₂, arith}
+use Rattle.std.proofs.Common.{◌≡◌, ℕ, suc, ◌+◌, ◌-◌, ◌<◌, ◌≤◌, true, false, ◌≢◌, List, length, get_or, sym, ap, ◌∙◌, subst, ap₂, arith}
 use mathlib.Core.Path.{fun_ext}
-use Rattle.algebra.specs.Poly.{at, Below, Degree}
+use Rattle.algebra.specs.Poly.{at, Below}
 use Rattle.algebra.specs.Sums.{count}
 use Rattle.algebra.proofs.Eval.{ev_more}
 use Rattle.algebra.proofs.Roots.{id_hom}
@@ -12,10 +12,10 @@ use Rattle.decoding.specs.Words.{Same, differ, distance, Codeword}
 use Rattle.decoding.specs.Sift.{zeros, Passes}
 use Rattle.decoding.proofs.Sift.{sift_only}
 use Rattle.fields.specs.Numbers.{Numbers, AllBelow, Element, elem, times, ring_of, field_of, elem_inj}
-use Rattle.polynomials.specs.Series.{poly, value}
+use Rattle.polynomials.specs.Series.{poly}
 use Rattle.polynomials.proofs.Readings.{all_at, poly_at, poly_past}
 use Rattle.sift.specs.Roots.{vanishes, Values, Splits}
-use Rattle.sift.specs.Received.{Ends, Placed, Describes, Passed, Sifted}
+use Rattle.sift.specs.Received.{Placed, Describes, Passed}
 use Rattle.sift.specs.Reading.{Recovered, differs}
 use Rattle.sift.proofs.Gathering.{differs_yes, differs_no}
 use Rattle.sift.proofs.Recovery.{ends_below}

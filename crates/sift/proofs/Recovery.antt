@@ -1,6 +1,5 @@
 -- A message that is read off the shares at places away from the roots.
-use Rattle.std.proofs.Common.{◌≡◌, ℕ, suc, ◌+◌, ◌<◌, ◌≤◌, ◌≢◌, List, [], ◌∷◌, length, get_or, sym, refl, ap, ◌∙◌, subst, ap₂, arith}
-use Rattle.algebra.specs.Ring.{Ring}
+use Rattle.std.proofs.Common.{◌≡◌, ℕ, ◌<◌, ◌≤◌, ◌≢◌, List, [], ◌∷◌, length, get_or, sym, ap, ◌∙◌, subst, arith}
 use Rattle.algebra.specs.Field.{Field}
 use Rattle.algebra.specs.Poly.{Below}
 use Rattle.algebra.specs.Solve.{ring}
@@ -8,7 +7,7 @@ use Rattle.algebra.specs.PolyForms.{forms}
 use Rattle.algebra.specs.RingLaws as L
 use Rattle.algebra.proofs.Eval.{ev_more}
 use Rattle.algebra.proofs.Roots.{id_hom}
-use Rattle.fields.specs.Numbers.{Numbers, AllBelow, Element, elem, pos, times, over, ring_of, field_of, elem_mul, elem_inv, elem_inj}
+use Rattle.fields.specs.Numbers.{Numbers, AllBelow, elem, pos, times, over, ring_of, field_of, elem_mul, elem_inv, elem_inj}
 use Rattle.polynomials.specs.Series.{poly, value}
 use Rattle.polynomials.proofs.Readings.{all_at, poly_at}
 use Rattle.sift.specs.Interpolation.{Distinct, Interpolates}

@@ -1,9 +1,7 @@
 -- The locator of a pair, and a polynomial with as many roots among the points as its degree.
-use Rattle.std.proofs.Common.{◌≡◌, ℕ, zero, suc, ◌+◌, ◌<◌, ◌≤◌, Bool, true, false, eqb, ◌≢◌, List, length, get_or, take, sym, refl, ap, ◌∙◌, subst, ap₂, add-one, arith, eq-eqb, ne_eqb}
-use native.Mathlib.Decide.{ℕ_discrete}
-use Rattle.algebra.specs.Ring.{Ring}
+use Rattle.std.proofs.Common.{◌≡◌, ℕ, zero, suc, ◌+◌, ◌<◌, ◌≤◌, true, false, List, length, get_or, take, sym, refl, ap, ◌∙◌, subst, add-one, arith, eq-eqb, ne_eqb}
 use Rattle.algebra.specs.Field.{Field}
-use Rattle.algebra.specs.Poly.{conv, padd, scale, at, Below, Degree}
+use Rattle.algebra.specs.Poly.{conv, padd, at, Below, Degree}
 use Rattle.algebra.specs.PolyRing.{padd_assoc, padd_zero}
 use Rattle.algebra.specs.Division.{size}
 use Rattle.algebra.specs.Sums.{count}
@@ -12,8 +10,8 @@ use Rattle.algebra.proofs.Roots.{id_hom}
 use Rattle.algebra.proofs.Products.{count_cong}
 use Rattle.algebra.proofs.Degrees.{degree_less, size_below, size_degree}
 use Rattle.decoding.specs.Sift.{zeros}
-use Rattle.fields.specs.Numbers.{Numbers, AllBelow, Element, elem, pos, ring_of, field_of, elem_inj}
-use Rattle.polynomials.specs.Series.{poly, value, plus_shifted}
+use Rattle.fields.specs.Numbers.{Numbers, Element, elem, pos, ring_of, field_of, elem_inj}
+use Rattle.polynomials.specs.Series.{poly, plus_shifted}
 use Rattle.polynomials.proofs.Readings.{all_at, poly_at, poly_past}
 use Rattle.polynomials.proofs.Shapes.{product_none, product_more}
 use Rattle.sift.specs.Roots.{vanishes, Values, Splits}

@@ -1,6 +1,6 @@
 -- How a message is read off the shares, in this order: places away from the roots with what the message must be there, the codeword of a
 -- message at the places, the two together, and the comparison of a word with the shares.
-use Rattle.std.specs.Prelude.{◌≡◌, ℕ, ◌<◌, ◌≤◌, Bool, true, false, cond, ◌≢◌, List, length, Some, None, Option, ◌==◌, slice_index}
+use Rattle.std.specs.Prelude.{◌≡◌, ℕ, ◌<◌, Bool, true, false, cond, ◌≢◌, List, length, Some, None, Option, ◌==◌, slice_index}
 use Rattle.algebra.specs.Sums.{count}
 use Rattle.fields.specs.Numbers.{Numbers, AllBelow, elem, times}
 use Rattle.polynomials.specs.Series.{poly, value}

@@ -34,9 +34,9 @@ pub fn interpolate<F: Field>(out: &mut [u16], points: &[u16], values: &[u16], no
     clear::<F>(out);
     clear::<F>(node);
     node[0] = 1;
-    for i in 0..points.len() {
-        let c = factor::<F>(out, node, points[i], values[i]);
+    for (point, value) in points.iter().zip(values) {
+        let c = factor::<F>(out, node, *point, *value);
         add_multiple::<F>(out, c, node);
-        mul_linear_in_place::<F>(node, points[i]);
+        mul_linear_in_place::<F>(node, *point);
     }
 }

@@ -1,10 +1,9 @@
 // The locator of a pair, and its roots among the points.
-ghost use Rattle.std.specs.Prelude.{◌≡◌, ◌+◌, ◌<◌, ◌≤◌, T, length};
-ghost use Rattle.algebra.specs.Sums.{count};
+ghost use Rattle.std.specs.Prelude.{◌≡◌, ◌+◌, ◌<◌, ◌≤◌, ◌==◌, T, count_by, length};
 ghost use Rattle.decoding.specs.Sift.{located};
 ghost use Rattle.fields.specs.Numbers.{AllBelow, ring_of};
 ghost use Rattle.polynomials.specs.Series.{poly, Reads};
-ghost use Rattle.sift.specs.Roots.{vanishes, Values, Splits};
+ghost use Rattle.sift.specs.Roots.{Values, Splits};
 
 use fields::Field;
 use polynomials::{add_shifted_multiple, evaluate, multiply_into, size};
@@ -20,8 +19,8 @@ pub fn locate<F: Field>(out: &mut [u16], f1: &[u16], h1: &[u16], f2: &[u16], h2:
     ensures { Reads F.Field.numbers out.new (located (ring_of F.Field.numbers) (poly F.Field.numbers h1.now) (poly F.Field.numbers h2.now) (poly F.Field.numbers f1.now) (poly F.Field.numbers f2.now)) }
 {
     multiply_into::<F>(out, f1, h1);
-    for i in 0..f2.len() {
-        add_shifted_multiple::<F>(out, f2[i], i, h2);
+    for (i, factor) in f2.iter().enumerate() {
+        add_shifted_multiple::<F>(out, *factor, i, h2);
     }
 }
 
@@ -32,23 +31,17 @@ pub fn values_at<F: Field>(out: &mut [u16], p: &[u16], points: &[u16])
     requires each { length out.old ≡ length points.now }
     ensures { Values F.Field.numbers p.now points.now out.new }
 {
-    for j in 0..points.len() {
-        out[j] = evaluate::<F>(p, points[j]);
+    // By index in out: what is written through a zip of `iter_mut` is not known to a proof.
+    for (j, point) in points.iter().enumerate() {
+        out[j] = evaluate::<F>(p, *point);
     }
 }
 
 // How many of the numbers are 0.
 fn zeros(values: &[u16]) -> usize
-    ensures within { result ≤ length values.now }
-    ensures is { result ≡ count (length values.now) (vanishes values.now) }
+    ensures { result ≡ count_by (λ x. x == 0) values.now }
 {
-    let mut n = 0;
-    for i in 0..values.len() {
-        if values[i] == 0 {
-            n += 1;
-        }
-    }
-    n
+    values.iter().filter(|value| **value == 0).count()
 }
 
 // Whether p has as many roots among the points as its degree; its values there are written to values.

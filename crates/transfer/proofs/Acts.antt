@@ -1,12 +1,11 @@
 -- Acts that are done one after another, up to the first that is refused.
-use Rattle.std.proofs.Common.{◌≡◌, ℕ, ◌+◌, ◌<◌, ◌≤◌, List, [], ◌∷◌, length, get_or, drop, Some, None, Option, sym, refl, ap, ◌∙◌, arith}
-use Rattle.std.proofs.lemmas.List.{drop_more, drop_all}
+use Rattle.std.proofs.Common.{◌≡◌, ℕ, List, ◌∷◌, Some, None, Option, sym, refl, ap, ◌∙◌, arith}
 use Rattle.faults.specs.declared.CollectionFault.{CollectionFault}
 use Rattle.faults.specs.Faults.{collection_refusal}
 use Rattle.codes.specs.First.{or_else}
 use Rattle.codes.specs.Opening.{Given, first_fault}
-use Rattle.collections.specs.Book.{Book, unopened, Act, opening, entering, blank_check, of_code, check, writes, accepts, said_by, left_by, Said, done, refused, Right}
-use Rattle.transfer.specs.Loading.{enterings, first_refused, all_written}
+use Rattle.collections.specs.Book.{Book, unopened, Act, opening, blank_check, of_code, check, writes, accepts, said_by, left_by, Said, done, refused, Right}
+use Rattle.transfer.specs.Loading.{first_refused, all_written}
 
 -- an act is accepted where it says so, and refused where it says so
 no_refusal : (f : CollectionFault) → done ≡ refused (collection_refusal f) f → ⊥
@@ -41,24 +40,11 @@ goes q b all m rest a more e d r h w = record {
   book = d.book ∙ ap (all_written m) r ∙ sym (ap (λ (x : Book). all_written x more) w);
 }
 
-pub skips : (q : ℕ) (b : Book) (all : List Act) (m : Book) (rest more : List Act) → Done q b all m rest → rest ≡ more → Done q b all m more
-skips q b all m rest more d r = record { fault = d.fault ∙ ap (first_refused q m) r; book = d.book ∙ ap (all_written m) r }
-
 pub stops : (q : ℕ) (b : Book) (all : List Act) (m : Book) (rest : List Act) (a : Act) (more : List Act) (f : CollectionFault) → Done q b all m rest → rest ≡ a ∷ more → check q m a ≡ Some f → first_refused q b all ≡ Some f
 stops q b all m rest a more f d r h =
     d.fault
     ∙ ap (first_refused q m) r
     ∙ ap (λ (o : Option CollectionFault). or_else o (first_refused q (writes m a) more)) h
-
--- the enterings from place i on
-pub none_at : (xs : List (Option ℕ)) (i : ℕ) → i < length xs → None ≡ get_or xs i None → enterings i (drop i xs) ≡ enterings (i + 1) (drop (i + 1) xs)
-none_at xs i h e = ap (enterings i) (drop_more xs i None h ∙ ap (λ (x : Option ℕ). x ∷ drop (i + 1) xs) (sym e))
-
-pub some_at : (xs : List (Option ℕ)) (i v : ℕ) → i < length xs → Some v ≡ get_or xs i None → enterings i (drop i xs) ≡ entering i v ∷ enterings (i + 1) (drop (i + 1) xs)
-some_at xs i v h e = ap (enterings i) (drop_more xs i None h ∙ ap (λ (x : Option ℕ). x ∷ drop (i + 1) xs) (sym e))
-
-pub over_at : (xs : List (Option ℕ)) (i : ℕ) → length xs ≤ i → enterings i (drop i xs) ≡ []
-over_at xs i h = ap (enterings i) (drop_all i xs h)
 
 -- a blank collection is opened as a new one is
 pub opens_alike : (q : ℕ) (b n : Book) (g : Given) → None ≡ blank_check b → n ≡ unopened → check q b (opening g) ≡ check q n (opening g)

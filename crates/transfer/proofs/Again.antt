@@ -1,5 +1,5 @@
 -- A written sheet loads into a blank collection as the collection that it came from.
-use Rattle.std.proofs.Common.{◌≡◌, ℕ, zero, suc, ◌+◌, ◌-◌, ◌*◌, ◌/◌, ◌%◌, ◌^◌, ◌<◌, ◌≤◌, Bool, not, List, [], ◌∷◌, map, length, get_or, take, replicate, Some, None, Option, sym, refl, ap, ◌∙◌, subst, ap₂, ⊎_elim, arith, length-take, eq-eqb, ne_eqb}
+use Rattle.std.proofs.Common.{◌≡◌, ℕ, zero, suc, ◌+◌, ◌-◌, ◌*◌, ◌/◌, ◌%◌, ◌^◌, ◌<◌, ◌≤◌, Bool, not, List, [], ◌∷◌, map, length, get_or, replicate, Some, None, Option, sym, refl, ap, ◌∙◌, subst, ap₂, ⊎_elim, arith, eq-eqb, ne_eqb}
 use Rattle.std.proofs.lemmas.Bool.{cases_lt}
 use Rattle.std.proofs.lemmas.List.{same_lists, get_or_append_left, get_or-append_right, get_or-take, length-map}
 use Rattle.std.proofs.lemmas.List.FromFn.{length-map-range_with_len, get_or-map-range_with_len}
@@ -11,17 +11,16 @@ use Rattle.codes.specs.First.{or_else, when, mapped}
 use Rattle.codes.specs.Opening.{Given}
 use Rattle.collections.specs.declared.Place.{Place}
 use Rattle.collections.specs.declared.Place.TheVariants.{Empty, Filled}
-use Rattle.collections.specs.Book.{Book, unopened, opened, opening, of_code, writes, AllFit, FairPage, Fair}
+use Rattle.collections.specs.Book.{Book, unopened, opened, places_in, opening, of_code, writes, AllFit, FairPage, Fair}
 use Rattle.collections.specs.declared.Opened.{Opened}
-use Rattle.collections.specs.declared.State.{State}
-use Rattle.collections.specs.declared.State.TheVariants.{Open}
 use Rattle.collections.specs.declared.Kept.{Kept}
-use Rattle.collections.specs.Standing.{given_of, page, standing, share, Over, Sound}
+use Rattle.collections.proofs.Booked.{on_page}
+use Rattle.collections.specs.Standing.{given_of, opened_in, standing, share, Over, Sound}
 use Rattle.sheets.specs.Sheet.{sheet_of, two, header_fault, field_fault, number, column, given_in, share_in, shares_in}
 use Rattle.transfer.specs.Loading.{acts_of, enterings, first_refused, all_written, load_fault, loaded, done, said_by, left_by, Loads}
 use Rattle.transfer.specs.Writing.{as_number, entry_bytes, entries_bytes, sheet_bytes, bytes_of}
 use Rattle.sheets.proofs.Made.{no_fault}
-use Rattle.transfer.proofs.Written.{entries_length, front_length, count_is}
+use Rattle.transfer.proofs.Written.{entries_length, front_length, count_is, even}
 use Rattle.transfer.proofs.Filled.{place_share, fill, AllElements, none_refused}
 
 two_pair : (v : ℕ) → v < 2 ^ 16 → two (v / 256 % 256) (v % 256) ≡ v
@@ -181,16 +180,15 @@ module _ (q tag : ℕ) (g : Given) (ps : List Place) (fair : FairPage q g ps) (f
   }
 
 -- the sheet of a sound collection that is open
-pub kept_again : (q tag : ℕ) (k : Kept) (o : Opened) (written : List ℕ) → k.state ≡ Open o → Sound q k → written ≡ bytes_of tag (standing k) → Loads q tag unopened written done (standing k)
+pub kept_again : (q tag : ℕ) (k : Kept) (o : Opened) (written : List ℕ) → opened_in k.page ≡ Some o → Sound q k → written ≡ bytes_of tag (standing k) → Loads q tag unopened written done (standing k)
 kept_again q tag k o written e sound w =
-    let ps = take o.code.count k.places.at in
+    let ps = places_in (standing k) in
     let g = given_of o in
-    let on : standing k ≡ opened g ps = ap (λ (s : State). page s k.places.at) e in
+    let on : standing k ≡ opened g ps = on_page k.page o e in
     let over : (o.code.q ≡ q) × (q < 2 ^ 16) = subst (Over q) e sound.0 in
     let fair : FairPage q g ps = subst (Fair q) on sound.1 in
     let few = o.code.places.1 in
     let size : length g.points ≡ o.code.count = count_is o in
-    let even : length g.multipliers ≡ length g.points = (let full = o.code.multipliers_length in simp length-take (omega (arith, size))) in
     let points : (i : ℕ) → i < length g.points → get_or g.points i 0 < 2 ^ 16 =
     λ i h. let l : i < o.code.count = omega (arith, size) in
     (let b = o.code.points_non_zero i l in omega (arith, b.1, get_or-take o.code.count o.code.points i 0 l)) in
@@ -199,4 +197,4 @@ kept_again q tag k o written e sound w =
     (let b = o.code.multipliers_non_zero i l in omega (arith, b.1, get_or-take o.code.count o.code.multipliers i 0 l)) in
     subst (λ (b : Book). Loads q tag unopened written done b) (sym on)
     (subst (λ (l : List ℕ). Loads q tag unopened l done (opened g ps)) (sym (w ∙ ap (bytes_of tag) on))
-    (loads_again q tag g ps fair (omega (arith, size)) even over.1 points multipliers))
+    (loads_again q tag g ps fair (omega (arith, size)) (even o) over.1 points multipliers))

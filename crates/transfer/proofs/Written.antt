@@ -1,16 +1,16 @@
 -- Bytes that are written one run behind the other into the front of an area.
-use Rattle.std.proofs.Common.{◌≡◌, ℕ, zero, suc, ◌+◌, ◌*◌, ◌≤◌, Bool, List, ◌++◌, length, take, drop, None, Option, sym, refl, ap, ◌∙◌, append_assoc, add-one, arith, length-append, length-take, le-ltb}
+use Rattle.std.proofs.Common.{◌≡◌, ℕ, zero, suc, ◌+◌, ◌*◌, ◌<◌, ◌≤◌, Bool, List, [], ◌∷◌, ◌++◌, length, get_or, take, drop, Some, None, Option, sym, refl, ap, ap₂, ◌∙◌, append_assoc, add-one, arith, length-append, length-drop, length-take, le-ltb}
 use lib.Seq.{take-append_seam, drop-append_seam}
 use Rattle.std.proofs.lemmas.List.{drop-drop}
 use Rattle.faults.specs.declared.ListingFault.TheVariants.{ResultArea}
 use Rattle.codes.specs.First.{when}
 use Rattle.codes.specs.Opening.{Given}
 use Rattle.collections.specs.declared.Opened.{Opened}
-use Rattle.collections.specs.declared.State.{State}
-use Rattle.collections.specs.declared.State.TheVariants.{Open}
 use Rattle.collections.specs.declared.Kept.{Kept}
-use Rattle.collections.specs.Standing.{given_of, page, standing, shares}
-use Rattle.transfer.specs.Writing.{header_bytes, entry_bytes, entries_bytes, sheet_bytes, bytes_of, write_fault}
+use Rattle.collections.specs.Book.{Book}
+use Rattle.collections.proofs.Booked.{on_page}
+use Rattle.collections.specs.Standing.{given_of, opened_in, standing, shares}
+use Rattle.transfer.specs.Writing.{pair, as_number, header_bytes, entry_bytes, entries_bytes, sheet_bytes, bytes_of, write_fault}
 
 pub put_next : (front area out bs after : List ℕ) (at : ℕ) → out ≡ front ++ drop at area → at ≡ length front → after ≡ take at out ++ (bs ++ drop (at + length bs) out) → after ≡ (front ++ bs) ++ drop (at + length bs) area
 put_next front area out bs after at o a p =
@@ -34,6 +34,25 @@ pub front_length : (tag : ℕ) (g : Given) (xs : List (Option ℕ)) (n : ℕ) �
 front_length tag g xs n =
     length-append (header_bytes tag g) (entries_bytes g xs n) ∙ ap (λ (k : ℕ). 9 + k) (entries_length g xs n)
 
+-- a list from the place k on begins with what stands there
+pub drop_next : (k : ℕ) (xs : List ℕ) (x : ℕ) (rest : List ℕ) → drop k xs ≡ x ∷ rest → (k < length xs) × (x ≡ get_or xs k 0) × (rest ≡ drop (k + 1) xs)
+drop_next zero [] x rest e = cc
+drop_next zero (y ∷ ys) x rest e = (omega arith, cc, cc)
+drop_next (suc k) [] x rest e = cc
+drop_next (suc k) (y ∷ ys) x rest e =
+    let (h, v, t) = drop_next k ys x rest e in
+    let u : suc k + 1 ≡ suc (k + 1) = omega arith in (omega arith, v, t ∙ sym (ap (λ (n : ℕ). drop n (y ∷ ys)) u))
+
+pub all_passed : (k : ℕ) (xs rest : List ℕ) → rest ≡ drop k xs → k ≤ length xs → length rest ≡ 0 → k ≡ length xs
+all_passed k xs rest e h z = let l = ap length e ∙ length-drop k xs in omega arith
+
+-- the entry of the place p, which is the k-th
+pub entry_is : (g : Given) (xs : List (Option ℕ)) (k p a b : ℕ) (o : Option ℕ) (bs : List ℕ) → p ≡ k → a ≡ get_or g.points k 0 → b ≡ get_or g.multipliers k 0
+    → o ≡ get_or xs p None → bs ≡ pair a ++ (pair b ++ pair (as_number o)) → bs ≡ entry_bytes g xs k
+entry_is g xs k p a b o bs e f h s w =
+    w ∙ ap₂ (λ (m n : ℕ). pair m ++ (pair n ++ pair (as_number o))) f h
+    ∙ ap (λ (z : Option ℕ). pair (get_or g.points k 0) ++ (pair (get_or g.multipliers k 0) ++ pair (as_number z))) (s ∙ ap (λ (i : ℕ). get_or xs i None) e)
+
 -- one entry more
 pub entry_next : (tag : ℕ) (g : Given) (xs : List (Option ℕ)) (p : ℕ) (area out bs after : List ℕ) → out ≡ (header_bytes tag g ++ entries_bytes g xs p) ++ drop (9 + 6 * p) area → bs ≡ entry_bytes g xs p → after ≡ take (9 + 6 * p) out ++ (bs ++ drop (9 + 6 * p + length bs) out) → after ≡ (header_bytes tag g ++ entries_bytes g xs (p + 1)) ++ drop (9 + 6 * (p + 1)) area
 entry_next tag g xs p area out bs after o e h =
@@ -54,19 +73,26 @@ count_is o =
     let full = o.code.points_length in
     simp length-take (omega arith)
 
-pub room : (k : Kept) (o : Opened) (m : ℕ) → k.state ≡ Open o → 9 + 6 * o.code.count ≤ m → write_fault (standing k) m ≡ None
+pub even : (o : Opened) → length (given_of o).multipliers ≡ length (given_of o).points
+even o =
+    let few = o.code.places.1 in
+    let points = o.code.points_length in
+    let multipliers = o.code.multipliers_length in
+    simp length-take (omega arith)
+
+pub room : (k : Kept) (o : Opened) (m : ℕ) → opened_in k.page ≡ Some o → 9 + 6 * o.code.count ≤ m → write_fault (standing k) m ≡ None
 room k o m e h =
     let n = count_is o in
     let enough : 9 + 6 * length (given_of o).points ≤ m = omega arith in
-    ap (λ (s : State). write_fault (page s k.places.at) m) e
+    ap (λ (b : Book). write_fault b m) (on_page k.page o e)
     ∙ ap (λ (t : Bool). when t (ResultArea m)) (le-ltb m (9 + 6 * length (given_of o).points) enough)
 
-pub bytes_open : (tag : ℕ) (k : Kept) (o : Opened) → k.state ≡ Open o → bytes_of tag (standing k) ≡ sheet_bytes tag (given_of o) (shares (standing k))
+pub bytes_open : (tag : ℕ) (k : Kept) (o : Opened) → opened_in k.page ≡ Some o → bytes_of tag (standing k) ≡ sheet_bytes tag (given_of o) (shares (standing k))
 bytes_open tag k o e =
-    ap (λ (s : State). bytes_of tag (page s k.places.at)) e
-    ∙ sym (ap (λ (s : State). sheet_bytes tag (given_of o) (shares (page s k.places.at))) e)
+    ap (bytes_of tag) (on_page k.page o e)
+    ∙ sym (ap (λ (b : Book). sheet_bytes tag (given_of o) (shares b)) (on_page k.page o e))
 
-pub size_open : (tag : ℕ) (k : Kept) (o : Opened) → k.state ≡ Open o → length (bytes_of tag (standing k)) ≡ 9 + 6 * o.code.count
+pub size_open : (tag : ℕ) (k : Kept) (o : Opened) → opened_in k.page ≡ Some o → length (bytes_of tag (standing k)) ≡ 9 + 6 * o.code.count
 size_open tag k o e =
     ap length (bytes_open tag k o e)
     ∙ front_length tag (given_of o) (shares (standing k)) (length (given_of o).points)

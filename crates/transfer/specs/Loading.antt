@@ -9,7 +9,7 @@ use Rattle.faults.specs.Faults.{sheet_refusal, sheet_byte}
 use Rattle.codes.specs.First.{or_else, mapped}
 use Rattle.collections.specs.declared.Kept.{Kept}
 use Rattle.collections.specs.Book.{Book, Act, opening, entering, check, writes}
-use Rattle.collections.specs.Standing.{standing, Sound, SameIfRefused}
+use Rattle.collections.specs.Standing.{standing, SameIfRefused}
 use Rattle.transfer.specs.Writing.{bytes_of}
 use Rattle.sheets.specs.Sheet.{Sheet, sheet_of, header_fault, field_fault, given_in, shares_in}
 
@@ -70,5 +70,4 @@ BackIfLoaded (Err f) tag bs after = Unit {0}
 pub record Loaded {U : Type 0} (q tag : ℕ) (before : Kept) (bs : List ℕ) (r : Result U SheetFault) (after : Kept) : Type 0 where
   pub right : Loads q tag (standing before) bs (said r) (standing after)
   pub same : SameIfRefused r before after
-  pub sound : Sound q before → Sound q after
   pub back : BackIfLoaded r tag bs (standing after)

@@ -1,5 +1,5 @@
--- The bytes of a sheet for an open book, and writing it: what refuses that, 20 and then 10, and what the area holds after it.
-use Rattle.std.specs.Prelude.{ℕ, zero, suc, ◌+◌, ◌*◌, ◌/◌, ◌%◌, List, [], ◌∷◌, ◌++◌, length, drop, Some, None, Option, nat_lt, slice_index, slice_index_or}
+-- The bytes of a sheet for an open book, and what refuses writing it, 20 and then 10.
+use Rattle.std.specs.Prelude.{ℕ, zero, suc, ◌+◌, ◌*◌, ◌/◌, ◌%◌, List, [], ◌∷◌, ◌++◌, length, Some, None, Option, nat_lt, slice_index, slice_index_or}
 use Rattle.faults.specs.declared.CollectionFault.TheVariants.{Blank}
 use Rattle.faults.specs.declared.ListingFault.{ListingFault}
 use Rattle.faults.specs.declared.ListingFault.TheVariants.{Collection, ResultArea}
@@ -43,7 +43,3 @@ bytes_of tag (opened g ps) = sheet_bytes tag g (shares (opened g ps))
 abbrev pub write_fault : Book → ℕ → Option ListingFault
 write_fault unopened m = Some (Collection Blank)
 write_fault (opened g ps) m = when (nat_lt m (9 + 6 * length g.points)) (ResultArea m)
-
-abbrev pub area_after : Option ListingFault → List ℕ → List ℕ → List ℕ
-area_after None bytes area = bytes ++ drop (length bytes) area
-area_after (Some f) bytes area = area

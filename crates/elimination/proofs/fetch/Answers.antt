@@ -1,25 +1,17 @@
-use Rattle.std.proofs.Common.{length, sym, ◌∙◌, arith}
-use Rattle.polynomials.proofs.Writes.{written_none, written_turn}
-use Rattle.polynomials.proofs.Readings.{wrote, past, all_at, poly_at}
+use Rattle.std.proofs.Common.{◌≡◌, ℕ, ◌+◌, ◌-◌, ◌*◌, List, length, take, drop, sym, refl, ap, ◌∙◌, subst, arith}
+use Rattle.polynomials.specs.Series.{poly, Reads}
 use Rattle.functionals.specs.Runs.{run}
-use Rattle.functionals.proofs.Runs.{run_at, run_below, run_length}
+use Rattle.functionals.proofs.Runs.{run_below}
 use Rattle.elimination.proofs.fetch.Goals as goal
 
-pub loop-i-init : goal.loop-i-init
-loop-i-init g c = written_none 0 _ _
-
-pub loop-i-preserved : goal.loop-i-preserved
-loop-i-preserved g c =
-    written_turn c.loop-i.invariant (omega arith) (omega arith)
-    (λ _. sym (run_at (length c.args.pivot.now) c.args.rows.now c.args.p c.loop-i.i (omega arith)))
-
 pub returns : goal.returns
+unfolding run
 returns g c =
     let F = g.F.Field.numbers in
-    let v = c.args.pivot.now in
-    let r = run (length v) c.args.rows.now c.args.p in
-    let l = run_length (length v) c.args.rows.now c.args.p in
-    wrote F c.loop-i.invariant (λ k h. absurd (omega arith))
-    (λ k h. past F v k (omega arith) ∙ sym (past F r k (omega arith)))
-    (λ k. all_at F r (run_below F (length v) c.args.rows.now c.args.p c.requires.all) k)
-    (λ k. sym (poly_at F r k))
+    let rows = c.args.rows.now in
+    let n : ℕ = length c.args.pivot.now in
+    let at : ℕ = c.args.p * n in
+    let e : c.copy_from_slice.new.self ≡ run n rows c.args.p =
+    c.copy_from_slice.ensures.after ∙ ap (λ (k : ℕ). take k (drop at rows)) (let z : at + n - at ≡ n = omega arith in z) in
+    subst (λ (l : List ℕ). Reads F l (poly F (run n rows c.args.p))) (sym e)
+    (record { below = run_below F n rows c.args.p c.requires.all; is = refl })

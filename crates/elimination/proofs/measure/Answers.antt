@@ -1,30 +1,10 @@
 use Rattle.std.proofs.Common.{ℕ, ◌<◌, length, get_or, sym, subst, arith}
-use Rattle.fields.specs.Numbers.{AllBelow, pos}
+use Rattle.fields.specs.Numbers.{pos}
 use Rattle.functionals.specs.Runs.{run}
 use Rattle.functionals.specs.Tables.{Discrepancy}
-use Rattle.functionals.proofs.Runs.{rest_none, rest_more, rest_room, rest_run, run_below, each_more}
+use Rattle.functionals.proofs.Runs.{rest_more, rest_run, each_more}
 use Rattle.elimination.proofs.measure.Goals.{then-ranks-j, else-ranks-j}
 use Rattle.elimination.proofs.measure.Goals as goal
-
-pub loop-j-init : goal.loop-j-init
-loop-j-init g c = (rest_none c.args.size c.args.rows.now, λ i h. absurd (let z : i < 0 = h in omega arith))
-
-pub split_at-requires : goal.split_at-requires
-split_at-requires g c =
-    rest_room c.args.size c.loop-j.j (length c.args.values.now) c.args.rows.now c.loop-j.rest.now c.loop-j.invariant.0
-    (omega arith) c.requires.room
-
-pub discrepancy-requires : goal.discrepancy-requires
-discrepancy-requires g c =
-    let F = g.F.Field.numbers in
-    let e = rest_run c.args.size c.loop-j.j c.args.rows.now c.loop-j.rest.now c.split_at.result.0.now c.loop-j.invariant.0
-    c.split_at.ensures.front in
-    record {
-      first = subst (AllBelow F.q) (sym e) (run_below F c.args.size c.args.rows.now c.loop-j.j c.requires.first);
-      second = c.requires.second;
-      third = c.requires.third;
-      room = omega arith;
-    }
 
 pub loop-j-preserved : goal.loop-j-preserved
 loop-j-preserved g c =
@@ -37,18 +17,11 @@ loop-j-preserved g c =
     let e = rest_run size j rows c.loop-j.rest.now c.split_at.result.0.now c.loop-j.invariant.0 c.split_at.ensures.front in
     let P : ℕ → ℕ → Type 0 = λ i v. (v < F.q) × (get_or c.args.ranks.now i 0 < length xs → Discrepancy F (run size rows i) xs cs v) in (
       rest_more size j rows c.loop-j.rest.now c.split_at.result.1.now c.loop-j.invariant.0 c.split_at.ensures.back,
-      each_more P c.loop-j.values j c.if-ranks-j.values (omega arith) c.loop-j.invariant.1
+      each_more P c.loop-j.values j c.if-ranks-j.value (omega arith) c.loop-j.invariant.1
           (elim c.if-ranks-j.branch [
             | then-ranks-j w ↦
-                subst (P j) (sym w.values-is)
+                subst (P j) (sym w.value-is)
                 (w.discrepancy.ensures.below, λ _. subst (λ l. Discrepancy F l xs cs w.discrepancy.result) e w.discrepancy.ensures.is)
-            | else-ranks-j w ↦ subst (P j) (sym w.values-is) (pos F, λ h. absurd (let u = w.if-ranks-j.false in omega arith))
+            | else-ranks-j w ↦ subst (P j) (sym w.value-is) (pos F, λ h. absurd (let u = w.if-ranks-j.false in omega arith))
           ]),
     )
-
-pub returns : goal.returns
-returns g c =
-    record {
-      below = λ k h. (c.loop-j.invariant.1 k (omega arith)).0;
-      is = λ k h. (c.loop-j.invariant.1 k (omega arith)).1;
-    }

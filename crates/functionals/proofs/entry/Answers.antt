@@ -1,5 +1,5 @@
 use Rattle.std.proofs.Common.{ap, ◌∙◌}
-use Rattle.functionals.proofs.Tables.{past_row, entry_first, entry_left, entry_top, entry_rest}
+use Rattle.functionals.proofs.Tables.{entry_first, entry_left, entry_top, entry_rest}
 use Rattle.functionals.proofs.entry.Goals as goal
 
 pub returns-then-i-eq0 : goal.returns-then-i-eq0
@@ -10,9 +10,6 @@ pub returns-then-i-size-eq0 : goal.returns-then-i-size-eq0
 returns-then-i-size-eq0 g c =
     entry_left g.F.Field.numbers c.args.alpha c.args.size c.requires.some c.args.table.now c.args.i c.requires.before c.if-i-eq0.false
     c.if-i-size-eq0.true
-
-pub overflow_sub-i-else-i-size-2 : goal.overflow_sub-i-else-i-size-2
-overflow_sub-i-else-i-size-2 g c = past_row c.args.i c.args.size c.if-i-size-eq0.false c.if-i-size.false
 
 pub returns-then-i-size : goal.returns-then-i-size
 returns-then-i-size g c =

@@ -1,11 +1,8 @@
 use Rattle.std.proofs.Common.{◌/◌, ◌%◌, ◌∙◌, arith}
-use Rattle.polynomials.proofs.Writes.{written_none, written_turn}
+use Rattle.polynomials.proofs.Writes.{written_turn}
 use Rattle.functionals.proofs.Tables.{unit_table, unit_yes, unit_no}
 use Rattle.functionals.proofs.unit_table.Goals.{then-i-size, else-i-size}
 use Rattle.functionals.proofs.unit_table.Goals as goal
-
-pub loop-i-init : goal.loop-i-init
-loop-i-init g c = written_none 0 _ _
 
 pub loop-i-preserved : goal.loop-i-preserved
 loop-i-preserved g c =
@@ -14,8 +11,8 @@ loop-i-preserved g c =
     let n = c.args.size in
     written_turn c.loop-i.invariant (omega arith) (omega arith)
     (λ _. elim c.if-i-size.branch [
-      | then-i-size w ↦ w.out-is ∙ unit_yes F n (i % n) (i / n) w.if-i-size.true
-      | else-i-size w ↦ w.out-is ∙ unit_no F n (i % n) (i / n) w.if-i-size.false
+      | then-i-size w ↦ w.weight-is ∙ unit_yes F n (i % n) (i / n) w.if-i-size.true
+      | else-i-size w ↦ w.weight-is ∙ unit_no F n (i % n) (i / n) w.if-i-size.false
     ])
 
 pub returns : goal.returns

@@ -1,16 +1,13 @@
-use Rattle.std.proofs.Common.{◌≡◌, true, false, leb, length, get_or, sym, arith}
-use Rattle.std.proofs.lemmas.Bool.Decides.{nat_tests}
-use Rattle.codes.proofs.Firsts.{when_true, when_false, left_more, left_found}
+use Rattle.std.proofs.Common.{get_or, sym, ap, ◌∙◌}
+use Rattle.faults.specs.declared.ListingFault.TheVariants.{NotAnElement}
+use Rattle.codes.specs.First.{mapped}
+use Rattle.gathering.proofs.Copies.{elements_first}
 use Rattle.gathering.proofs.check_elements.Goals as goal
 
-pub returns-then-value-q : goal.returns-then-value-q
-returns-then-value-q c =
-    let xs = c.args.xs.now in
-    let bad : leb c.args.q (get_or c.args.xs.now c.loop-place.place 0) ≡ true = grind (arith, nat_tests) in
-    sym (left_found _ 0 (length xs) (length xs) c.loop-place.place _ (omega arith) (when_true _ _ bad) c.loop-place.invariant)
+pub returns-in-Some : goal.returns-in-Some
+returns-in-Some c =
+    ap (mapped (λ i. NotAnElement i (get_or c.args.xs.now i 0))) (sym c.in-Some.is ∙ c.first_beyond.ensures.is) ∙ sym (elements_first c.args.q c.args.xs.now)
 
-pub loop-place-preserved : goal.loop-place-preserved
-loop-place-preserved c =
-    let xs = c.args.xs.now in
-    let good : leb c.args.q (get_or c.args.xs.now c.loop-place.place 0) ≡ false = grind (arith, nat_tests) in
-    left_more _ 0 (length xs) (length xs) c.loop-place.place (omega arith) (when_false _ _ good) c.loop-place.invariant
+pub returns-in-None : goal.returns-in-None
+returns-in-None c =
+    ap (mapped (λ i. NotAnElement i (get_or c.args.xs.now i 0))) (sym c.in-None.is ∙ c.first_beyond.ensures.is) ∙ sym (elements_first c.args.q c.args.xs.now)

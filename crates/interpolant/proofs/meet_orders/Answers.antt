@@ -1,57 +1,55 @@
-use Rattle.std.proofs.Common.{◌≡◌, ℕ, ◌*◌, length, sym, ap, ◌∙◌, subst, arith}
+use Rattle.std.proofs.Common.{◌≡◌, ℕ, ◌+◌, ◌*◌, ◌<◌, [], ◌∷◌, ◌++◌, length, drop, sym, ap, ◌∙◌, subst, arith}
 use Rattle.fields.specs.Numbers.{AllBelow}
-use Rattle.functionals.proofs.Runs.{rest_none, rest_more, rest_room, rest_run, run_room, run_below}
+use Rattle.elimination.specs.Tableaus.{Fits}
+use Rattle.functionals.proofs.Runs.{run_below, chunk_more, chunk_count, length_push}
 use Rattle.interpolant.specs.States.{Orders}
-use Rattle.interpolant.proofs.Loops.{same_room, orders_turn}
+use Rattle.interpolant.proofs.Loops.{orders_turn, same_areas}
 use Rattle.interpolant.proofs.meet_orders.Goals as goal
 
-pub loop-a-init : goal.loop-a-init
-loop-a-init g c = (c.requires.first, rest_none c.args.bound c.args.taylor.now, λ P s i b h o v. v)
-
-pub split_at-requires : goal.split_at-requires
-split_at-requires g c =
-    rest_room c.args.bound c.loop-a.a c.args.count c.args.taylor.now c.loop-a.rest.now c.loop-a.invariant.1 c.loop-a-test.true
-    c.requires.orders
-
-pub step-requires : goal.step-requires
-step-requires g c =
-    let F = g.F.Field.numbers in
-    let e = rest_run c.args.bound c.loop-a.a c.args.taylor.now c.loop-a.rest.now c.split_at.result.0.now c.loop-a.invariant.1
-    c.split_at.ensures.front in
-    let l : length c.split_at.result.0.now ≡ c.args.bound = c.split_at.ensures.front_len in
-    let p : length c.loop-a.pivot ≡ length c.args.pivot.now = omega arith in
-    let r : length c.loop-a.rows ≡ length c.args.rows.now = omega arith in
-    record {
-      point = c.requires.point;
-      first = c.loop-a.invariant.0;
-      second = subst (AllBelow F.q) (sym e) (run_below F c.args.bound c.args.taylor.now c.loop-a.a c.requires.second.below);
-      third = c.requires.third;
-      ranked = omega arith;
-      valued = omega arith;
-      size = p ∙ c.requires.size ∙ ap (λ (n : ℕ). length c.args.cs.now * n) (sym l);
-      room = same_room (length c.args.cs.now) (length c.args.cs.now) (length c.args.pivot.now) (length c.loop-a.pivot)
-          (length c.args.rows.now) (length c.loop-a.rows) (omega arith) (sym p) (sym r) c.requires.room;
-    }
-
-pub loop-a-preserved : goal.loop-a-preserved
-loop-a-preserved g c =
+pub loop-xs-preserved : goal.loop-xs-preserved
+loop-xs-preserved g c =
     let F = g.F.Field.numbers in
     let B = c.args.bound in
-    let a = c.loop-a.a in
     let taylor = c.args.taylor.now in
-    let e = rest_run B a taylor c.loop-a.rest.now c.split_at.result.0.now c.loop-a.invariant.1 c.split_at.ensures.front in (
-      c.step.ensures.below,
-      rest_more B a taylor c.loop-a.rest.now c.split_at.result.1.now c.loop-a.invariant.1 c.split_at.ensures.back,
-      orders_turn F B c.args.alpha a taylor c.args.cs.now c.split_at.result.0.now c.args.rows.now c.args.ranks.now c.loop-a.rows
-          c.loop-a.ranks c.step.new.rows c.step.new.ranks c.requires.second
-          (run_room a c.args.count B (length taylor) c.loop-a-test.true c.requires.orders) e c.step.ensures.stepped c.loop-a.invariant.2,
-    )
-
-pub returns : goal.returns
-returns g c =
-    let F = g.F.Field.numbers in
+    let i = c.loop-xs.invariant in
+    let s = c.in-Some.ensures.steps in
+    let a : ℕ = length c.loop-xs.yielded in
+    let k = chunk_more B a taylor c.requires.some i.rest s.0.1.0 (s.0.1.1 ∙ i.size) in
+    let e : length (c.loop-xs.yielded ++ (c.in-Some.xs ∷ [])) ≡ a + 1 = length_push c.loop-xs.yielded _ in
     record {
-      below = c.loop-a.invariant.0;
-      met = subst (λ (n : ℕ). Orders F c.args.bound c.args.alpha c.args.cs.now n c.args.rows.now c.args.ranks.now c.loop-a.rows c.loop-a.ranks)
-          (let e : c.loop-a.a ≡ c.args.count = omega arith in e) c.loop-a.invariant.2;
+      fits = subst (λ (n : ℕ). Fits F.q (length c.args.cs.now) n c.step.new.self) (s.0.1.1 ∙ i.size) c.step.ensures.fits;
+      areas = same_areas i.areas c.step.ensures.areas;
+      size = s.0.0 ∙ i.size;
+      rest = k.1 ∙ ap (λ (n : ℕ). drop (n * B) taylor) (sym e);
+      left = let u = s.1 in let v = i.left in omega arith;
+      met = subst (λ (n : ℕ). Orders F B c.args.alpha c.args.cs.now n c.args.tableau.now.rows.now c.args.tableau.now.ranks.now c.step.new.self.rows.now c.step.new.self.ranks.now)
+          (sym e)
+          (orders_turn F B c.args.alpha a taylor c.args.cs.now c.in-Some.xs.now c.args.tableau.now.rows.now c.args.tableau.now.ranks.now
+          c.loop-xs.tableau.rows.now c.loop-xs.tableau.ranks.now c.step.new.self.rows.now c.step.new.self.ranks.now c.requires.taylor
+          k.2 k.0 c.step.ensures.stepped i.met);
     }
+
+pub step-requires-clause-orders : goal.step-requires-clause-orders
+step-requires-clause-orders g c =
+    let F = g.F.Field.numbers in
+    let i = c.loop-xs.invariant in
+    let s = c.in-Some.ensures.steps in
+    let a : ℕ = length c.loop-xs.yielded in
+    let k = chunk_more c.args.bound a c.args.taylor.now c.requires.some i.rest s.0.1.0 (s.0.1.1 ∙ i.size) in
+    subst (AllBelow F.q) (sym k.0) (run_below F c.args.bound c.args.taylor.now a c.requires.taylor.below)
+
+pub step-requires-clause-fits : goal.step-requires-clause-fits
+step-requires-clause-fits g c =
+    let i = c.loop-xs.invariant in
+    subst (λ (n : ℕ). Fits g.F.Field.numbers.q (length c.args.cs.now) n c.loop-xs.tableau) (sym (c.in-Some.ensures.steps.0.1.1 ∙ i.size)) i.fits
+
+pub returns-clause-met : goal.returns-clause-met
+returns-clause-met g c =
+    let F = g.F.Field.numbers in
+    let i = c.loop-xs.invariant in
+    let a : ℕ = length c.loop-xs.yielded in
+    let e : a ≡ c.args.count =
+    chunk_count c.args.bound a c.args.count c.loop-xs.xs-iterator.n c.args.taylor.now i.rest i.left c.requires.orders
+    (λ h. subst (λ (n : ℕ). length c.loop-xs.xs-iterator.iter.rest.now < n) i.size (c.in-None.ensures.steps h).1.0) in
+    subst (λ (n : ℕ). Orders F c.args.bound c.args.alpha c.args.cs.now n c.args.tableau.now.rows.now c.args.tableau.now.ranks.now c.loop-xs.tableau.rows.now c.loop-xs.tableau.ranks.now)
+    e i.met

@@ -1,10 +1,17 @@
-use Rattle.std.proofs.Common.{◌≡◌, ◌*◌, drop}
-use Rattle.fields.specs.Numbers.{AllBelow}
+use Rattle.std.proofs.Common.{◌≡◌, ◌+◌, ◌*◌, length, drop}
+use Rattle.elimination.specs.Tableaus.{Fits, SameAreas}
 use Rattle.interpolant.specs.States.{Orders}
 use Rattle.interpolant.proofs.meet_orders.Given as goal
 
-abbrev pub invariant-loop-a : goal.invariant-loop-a
-invariant-loop-a g l =
+abbrev pub invariant-loop-xs : goal.invariant-loop-xs
+invariant-loop-xs g l =
     let F = g.F.Field.numbers in
-    AllBelow F.q l.rows × (l.rest ≡ drop (l.a * l.bound) l.taylor)
-    × Orders F l.bound l.alpha l.cs l.a l.initial.rows l.initial.ranks l.rows l.ranks
+    let a = length l.yielded in
+    record {
+      fits : Fits F.q (length l.cs) l.bound l.tableau;
+      areas : SameAreas l.initial.tableau l.tableau;
+      size : l.xs-iterator.iter.size ≡ l.bound;
+      rest : l.xs-iterator.iter.rest.now ≡ drop (a * l.bound) l.taylor;
+      left : l.xs-iterator.n + a ≡ l.count;
+      met : Orders F l.bound l.alpha l.cs a l.initial.tableau.rows.now l.initial.tableau.ranks.now l.tableau.rows.now l.tableau.ranks.now;
+    }

@@ -1,10 +1,21 @@
-use Rattle.std.proofs.Common.{length}
-use Rattle.fields.specs.Numbers.{AllBelow}
+use Rattle.std.proofs.Common.{◌≡◌, ◌≤◌, ◌*◌, suc, length, drop}
+use Rattle.elimination.specs.Tableaus.{Fits, SameAreas}
 use Rattle.interpolant.proofs.Loops.{Through}
 use Rattle.interpolant.proofs.meet_places.Given as goal
 
-abbrev pub invariant-loop-i : goal.invariant-loop-i
-invariant-loop-i g l =
+abbrev pub invariant-loop-alpha : goal.invariant-loop-alpha
+invariant-loop-alpha g l =
     let F = g.F.Field.numbers in
-    AllBelow F.q l.rows
-    × Through F (length l.initial.values) l.bound l.multiplicity l.i l.points l.ys l.zs l.initial.rows l.initial.ranks l.rows l.ranks
+    let i = length l.yielded in
+    record {
+      fits : Fits F.q (suc l.shape.degree) l.shape.bound l.tableau;
+      areas : SameAreas l.initial.tableau l.tableau;
+      tall : l.shape.multiplicity * l.shape.bound ≤ length l.tables.taylor.now;
+      wide : l.shape.multiplicity * suc l.shape.degree ≤ length l.tables.weights.now;
+      inside : i ≤ length l.places.points.now;
+      points : l.alpha-iterator.a.rest.now ≡ drop i l.places.points.now;
+      ys : l.alpha-iterator.b.a.rest.now ≡ drop i l.places.ys.now;
+      zs : l.alpha-iterator.b.b.rest.now ≡ drop i l.places.zs.now;
+      met : Through F (suc l.shape.degree) l.shape.bound l.shape.multiplicity i l.places.points.now l.places.ys.now l.places.zs.now l.initial.tableau.rows.now
+          l.initial.tableau.ranks.now l.tableau.rows.now l.tableau.ranks.now;
+    }

@@ -6,12 +6,6 @@ use Rattle.polynomials.proofs.Readings.{poly_at}
 use Rattle.functionals.proofs.Runs.{each_more}
 use Rattle.interpolant.proofs.ratios.Goals as goal
 
-pub evaluate-requires : goal.evaluate-requires
-evaluate-requires g c = record { point = c.requires.all c.loop-i.i (omega arith); all = c.requires.all_h11 }
-
-pub evaluate-requires-in-loop-i : goal.evaluate-requires-in-loop-i
-evaluate-requires-in-loop-i g c = record { point = c.requires.all c.loop-i.i (omega arith); all = c.requires.all_h21 }
-
 pub loop-i-preserved : goal.loop-i-preserved
 loop-i-preserved g c =
     let F = g.F.Field.numbers in

@@ -5,6 +5,6 @@ use Rattle.basis.proofs.stage.first_weight.Goals as goal
 
 pub returns : goal.returns
 returns g c =
-    let p = c.args.h10.now in
+    let p = c.args.rows.now.pa.now in
     let e = size_is g.F.Field.numbers (length p) p c.requires.all in
     omega (arith, ints)

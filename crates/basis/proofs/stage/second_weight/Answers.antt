@@ -5,6 +5,6 @@ use Rattle.basis.proofs.stage.second_weight.Goals as goal
 
 pub returns : goal.returns
 returns g c =
-    let p = c.args.h21.now in
+    let p = c.args.rows.now.lb.now in
     let e = size_is g.F.Field.numbers (length p) p c.requires.all in
     omega (arith, ints)

@@ -1,5 +1,6 @@
-use Rattle.std.proofs.Common.{◌≡◌, ℕ, ◌+◌, ◌-◌, ◌*◌, ◌≤◌, length, take, None, sym, ◌∙◌, subst, ap₂, arith}
+use Rattle.std.proofs.Common.{◌≡◌, ℕ, ◌+◌, ◌-◌, ◌*◌, ◌≤◌, length, take, None, sym, ◌∙◌, subst, ap₂, arith, w16, to_z, of_z}
 use Rattle.std.proofs.lemmas.List.{length-take-le}
+use Rattle.std.proofs.lemmas.Int.{ints}
 use Rattle.fields.specs.Numbers.{AllBelow}
 use Rattle.gathering.specs.Shares.{gathering_fault}
 use Rattle.basis_call.proofs.Codes.{over_by, fault_by, fits_area, width_is, area_by, weights_by}
@@ -12,8 +13,8 @@ basis_for-basis-requires g c =
     let t = c.in_ok-shares.ensures.gathered in
     let e : c.count-n.result ≡ o.code.count = c.count-n.ensures in
     record {
-      over = over_by q c.args.collection.now.kept o c.requires c.in_ok-opened.ensures;
-      all = subst (λ (p : ℕ). AllBelow p (take c.count-n.result c.in_ok-shares.shares)) c.count.ensures t.below;
+      over = over_by q c.args.collection.now.kept o c.args.collection.now.sound c.in_ok-opened.ensures;
+      all = subst (λ (p : ℕ). AllBelow p (take c.count-n.result c.in_ok-shares.shares)) (c.Q.ensures ∙ g.met.F.Field.counts) t.below;
       told = length-take-le c.count-n.result c.in_ok-shares.shares (let s = t.size in let b = o.code.places.1 in omega arith) ∙ e;
     }
 
@@ -46,9 +47,9 @@ returns g c =
     let f : c.from.result ≡ o.code.threshold = c.from.ensures ∙ c.threshold.ensures in
     let h : 5 * (c.count-n.result - c.from.result + 1) ≤ length c.args.out.now = c.if-length-n.false in
     let passed : gathering_fault F.q o.code.count told ≡ None =
-    ap₂ (λ (p n : ℕ). gathering_fault p n told) (sym c.count.ensures) (sym e) ∙ sym c.in_ok-shares.ensures.fault in
+    ap₂ (λ (p n : ℕ). gathering_fault p n told) (sym (c.Q.ensures ∙ g.met.F.Field.counts)) (sym e) ∙ sym c.in_ok-shares.ensures.fault in
     record {
       fault = sym (fault_by F.q k o told (length out) opened passed None (fits_area o.code.count o.code.threshold (length out) (omega arith)));
       area = area_by F k o told shares r opened t.shares c.basis_for-basis.ensures out c.write.new.out c.write.ensures;
-      weights = weights_by F k o told shares r opened t.shares c.basis_for-basis.ensures c.weights_of.result c.weights_of.ensures.first c.weights_of.ensures.second;
+      weights = weights_by F k o told shares r opened t.shares c.basis_for-basis.ensures (record { w1 = to_z w16 (of_z w16 r.w1); w2 = to_z w16 (of_z w16 r.w2) }) (omega (arith, ints)) (omega (arith, ints));
     }

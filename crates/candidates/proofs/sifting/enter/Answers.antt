@@ -18,7 +18,7 @@ returns g c =
     let x = c.in-Some.found in
     record {
       entered = λ C d.
-          let P = Passing F C c.args.threshold (poly F c.args.received.shares.now) c.args.radius (locator F c.args.rows.h1.now c.args.rows.h2.now c.args.pair.now) in
+          let P = Passing F C c.args.sieve.now.threshold (poly F c.args.sieve.now.received.shares.now) c.args.sieve.now.radius (locator F c.args.sieve.now.h1.now c.args.sieve.now.h2.now c.args.pair.now) in
           subst (Lists in_order (λ z. Has z (take n slots) ⊎ P z))
           (sym (with_room in_order x slots n c.insert.result c.insert.new.self.slots.now c.insert.new.self.len c.requires.space told))
           (one_more in_order_total P x (take n slots) c.requires.ascending (c.in-Some.ensures C d).0 (c.in-Some.ensures C d).1);

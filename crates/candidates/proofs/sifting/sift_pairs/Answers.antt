@@ -1,5 +1,6 @@
 use Rattle.std.proofs.Common.{◌≡◌, ℕ, ◌≤◌, [], length, take, sym, ap, ◌∙◌, subst, arith, rules}
 use Rattle.sift.proofs.Described.{described}
+use Rattle.sift.proofs.Sieves.{placed}
 use Rattle.candidates.specs.Sifting.{ListsSifted}
 use Rattle.candidates.proofs.Entering.{has_at}
 use Rattle.candidates.proofs.Nearness.{none_sifted, more_sifted, closed_sifted, closed_blank, near}
@@ -8,9 +9,9 @@ use Rattle.candidates.proofs.sifting.sift_pairs.Goals as goal
 pub loop-pair-init : goal.loop-pair-init
 loop-pair-init g c =
     let F = g.F.Field.numbers in (
-      subst (λ (n : ℕ). ListsSifted F c.args.received.points.now c.args.received.multipliers.now c.args.received.shares.now c.args.rows.h1.now c.args.rows.h2.now c.args.threshold c.args.radius [] (take n c.new-roll.result.slots.now))
+      subst (λ (n : ℕ). ListsSifted F c.args.sieve.now.received.points.now c.args.sieve.now.received.multipliers.now c.args.sieve.now.received.shares.now c.args.sieve.now.h1.now c.args.sieve.now.h2.now c.args.sieve.now.threshold c.args.sieve.now.radius [] (take n c.new-roll.result.slots.now))
           (sym c.new-roll.ensures.empty)
-          (none_sifted F c.args.received.points.now c.args.received.multipliers.now c.args.received.shares.now c.args.rows.h1.now c.args.rows.h2.now c.args.threshold c.args.radius),
+          (none_sifted F c.args.sieve.now.received.points.now c.args.sieve.now.received.multipliers.now c.args.sieve.now.received.shares.now c.args.sieve.now.h1.now c.args.sieve.now.h2.now c.args.sieve.now.threshold c.args.sieve.now.radius),
       omega arith,
       cc,
       cc,
@@ -19,15 +20,12 @@ loop-pair-init g c =
 pub enter-requires : goal.enter-requires
 enter-requires g c =
     let F = g.F.Field.numbers in
-    let (C, d) = described F c.requires.ready.placed in
+    let (C, d) = described F (placed c.args.sieve.now) in
     record {
-      ready =
+      roomy =
           record {
-            placed = c.requires.ready.placed;
-            few = c.requires.ready.few;
-            fewer = c.requires.ready.fewer;
-            first_row = c.requires.ready.first_row;
-            second_row = c.requires.ready.second_row;
+            few = c.requires.roomy.few;
+            fewer = c.requires.roomy.fewer;
             fits = omega arith;
             fits_too = omega arith;
           };
@@ -38,16 +36,13 @@ enter-requires g c =
 
 pub loop-pair-preserved : goal.loop-pair-preserved
 loop-pair-preserved g c = (
-  more_sifted g.F.Field.numbers c.args.received.points.now c.args.received.multipliers.now c.args.received.shares.now c.args.rows.h1.now c.args.rows.h2.now c.args.threshold c.args.radius
+  more_sifted g.F.Field.numbers c.args.sieve.now.received.points.now c.args.sieve.now.received.multipliers.now c.args.sieve.now.received.shares.now c.args.sieve.now.h1.now c.args.sieve.now.h2.now c.args.sieve.now.threshold c.args.sieve.now.radius
       c.args.pairs.now c.loop-pair.pair-index (record { first = []; second = [] }) (take c.loop-pair.roll.len c.loop-pair.roll.slots.now) (take c.enter.new.roll.len c.enter.new.roll.slots.now)
       c.loop-pair-test.true c.loop-pair.invariant.0 c.enter.ensures.entered,
   omega (arith, c.enter.ensures.grows),
   c.enter.ensures.room ∙ c.loop-pair.invariant.2,
   c.enter.ensures.lender ∙ c.loop-pair.invariant.3,
 )
-
-pub close-requires : goal.close-requires
-close-requires g c = omega (arith, ap length c.new-roll.ensures.same)
 
 -- what the roll leaves is what the slots hold, since it was lent them and nothing else
 pub returns : goal.returns
@@ -62,12 +57,12 @@ returns g c =
     record {
       count = omega arith;
       sifted =
-          closed_sifted F c.args.received.points.now c.args.received.multipliers.now c.args.received.shares.now c.args.rows.h1.now c.args.rows.h2.now c.args.threshold c.args.radius
+          closed_sifted F c.args.sieve.now.received.points.now c.args.sieve.now.received.multipliers.now c.args.sieve.now.received.shares.now c.args.sieve.now.h1.now c.args.sieve.now.h2.now c.args.sieve.now.threshold c.args.sieve.now.radius
           c.args.pairs.now c.loop-pair.pair-index n c.close.result slots c.close.new.self.0 c.loop-pair-test.false fits c.close.ensures.count c.close.ensures.holds (search rules)
           c.loop-pair.invariant.0;
       near =
-          near F c.args.received.points.now c.args.received.multipliers.now c.args.received.shares.now c.args.rows.h1.now c.args.rows.h2.now c.args.threshold c.args.radius c.args.pairs.now _
-          (closed_sifted F c.args.received.points.now c.args.received.multipliers.now c.args.received.shares.now c.args.rows.h1.now c.args.rows.h2.now c.args.threshold c.args.radius
+          near F c.args.sieve.now.received.points.now c.args.sieve.now.received.multipliers.now c.args.sieve.now.received.shares.now c.args.sieve.now.h1.now c.args.sieve.now.h2.now c.args.sieve.now.threshold c.args.sieve.now.radius c.args.pairs.now _
+          (closed_sifted F c.args.sieve.now.received.points.now c.args.sieve.now.received.multipliers.now c.args.sieve.now.received.shares.now c.args.sieve.now.h1.now c.args.sieve.now.h2.now c.args.sieve.now.threshold c.args.sieve.now.radius
           c.args.pairs.now c.loop-pair.pair-index n c.close.result slots c.close.new.self.0 c.loop-pair-test.false fits c.close.ensures.count c.close.ensures.holds (search rules)
           c.loop-pair.invariant.0);
       beyond =

@@ -1,17 +1,17 @@
-use Rattle.std.proofs.Common.{length, sym, ◌∙◌, arith}
-use Rattle.codes.proofs.Firsts.{when_true, when_false, left_none, left_more, left_found, left_all}
+use Rattle.std.proofs.Common.{ℕ, Bool, eqb, get_or, length, take, rules, refl, ◌∙◌, arith}
+use Rattle.std.specs.List.{list_any}
+use Rattle.std.proofs.lemmas.Iterator.{YieldsList-from_range}
+use Rattle.std.proofs.lemmas.Iterator.Search.{find_from_yields_List}
+use borrow.Author.Tests.{tests}
+use Rattle.codes.specs.Opening.{repeats}
+use Rattle.codes.proofs.Firsts.{any_first, find_number, below_same, same_option}
 use Rattle.codes.proofs.checking.first_repeat.Goals as goal
 
-pub loop-i-init : goal.loop-i-init
-loop-i-init c = left_none _ 0 (length c.args.xs.now) (length c.args.xs.now) (omega arith)
-
-pub returns-then-repeats : goal.returns-then-repeats
-returns-then-repeats c =
-    sym (left_found _ 0 (length c.args.xs.now) (length c.args.xs.now) c.loop-i.i c.loop-i.i (omega arith) (when_true _ _ (sym c.repeats.ensures ∙ c.if-repeats.true)) c.loop-i.invariant)
-
-pub loop-i-preserved : goal.loop-i-preserved
-loop-i-preserved c =
-    left_more _ 0 (length c.args.xs.now) (length c.args.xs.now) c.loop-i.i (omega arith) (when_false _ _ (sym c.repeats.ensures ∙ c.if-repeats.false)) c.loop-i.invariant
-
 pub returns : goal.returns
-returns c = sym (left_all _ 0 (length c.args.xs.now) (length c.args.xs.now) c.loop-i.i (omega arith) c.loop-i.invariant)
+returns c =
+    let xs = c.args.xs.now in
+    let test : ℕ → Bool = λ i. list_any (λ y. eqb y (get_or xs i 0)) (take i xs) in
+    same_option c.find.result
+    ∙ find_from_yields_List test _ _ c.find.result c.find.ensures.ran (YieldsList-from_range 0 (length xs) (length xs) refl (omega arith)) (λ x b q k. search (rules, tests))
+    ∙ find_number test 0 (length xs)
+    ∙ below_same (length xs) test (repeats xs) (λ i h. any_first (λ y. eqb y (get_or xs i 0)) i xs (omega arith))

@@ -1,11 +1,13 @@
-use Rattle.std.proofs.Common.{arith}
-use Rattle.codes.proofs.Issued.{value_none, value_more}
+use Rattle.std.proofs.Common.{ℕ, rules, ◌∙◌}
+use Rattle.std.proofs.lemmas.Iterator.Adapters.{YieldsList-from_rev_slice}
+use Rattle.std.proofs.lemmas.Iterator.Consumers.{fold_from_yields_List}
+use borrow.Author.Tests.{tests}
+use Rattle.codes.proofs.Issued.{value_fold}
 use Rattle.codes.proofs.issuing.value.Goals as goal
 
-pub loop-i-init : goal.loop-i-init
-loop-i-init g c = value_none g.F.Field.numbers c.args.x c.args.message.now
-
-pub loop-i-preserved : goal.loop-i-preserved
-loop-i-preserved g c =
-    let e = value_more g.F.Field.numbers c.args.x c.loop-i.i c.loop-i.sum c.args.message.now (omega arith) (omega arith) c.loop-i.invariant in
-    cc
+pub returns : goal.returns
+returns g c =
+    let F = g.F.Field.numbers in
+    fold_from_yields_List _ (λ (sum y : ℕ). F.add y (F.mul c.args.x sum)) 0 c.fold.result c.fold.ensures.ran
+    (YieldsList-from_rev_slice c.args.message.now cc) (λ a y b q k. search (rules, tests))
+    ∙ value_fold F c.args.x c.args.message.now

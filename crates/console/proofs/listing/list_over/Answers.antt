@@ -1,17 +1,16 @@
 use Rattle.std.proofs.Common.{length}
 use Rattle.collections.specs.Standing.{standing}
-use Rattle.runs.specs.declared.Answer.TheVariants.{Done}
 use Rattle.console.specs.Lines.{report_text}
 use Rattle.console.proofs.Told.{told, printed}
 use Rattle.console.proofs.listing.list_over.Goals as goal
 
-pub report-requires : goal.report-requires
-report-requires g c =
-    (told g.F.Field.numbers g.F.Field.tag (length c.args.work.now) c.args.header.threshold c.args.header.places c.args.bytes
-    (standing c.run_blank.result.kept) c.run_blank.new.answers Done c.run_blank.auto.answers c.run_blank.ensures.law.runs).listed
+pub listed-requires : goal.listed-requires
+listed-requires g c =
+    (told g.F.Field.numbers g.F.Field.SHEET_NUMBER (length c.args.work.now) c.args.header.threshold c.args.header.places c.args.bytes
+    (standing c.run_blank.result.kept) c.run_blank.new.answers _ c.run_blank.auto.answers c.run_blank.ensures.law.runs).listed
 
 pub returns : goal.returns
 returns g c =
-    printed (report_text c.report.result) c.report.ensures
-    (told g.F.Field.numbers g.F.Field.tag (length c.args.work.now) c.args.header.threshold c.args.header.places c.args.bytes
-    (standing c.run_blank.result.kept) c.run_blank.new.answers Done c.run_blank.auto.answers c.run_blank.ensures.law.runs)
+    printed (report_text c.listed.result) c.listed.ensures
+    (told g.F.Field.numbers g.F.Field.SHEET_NUMBER (length c.args.work.now) c.args.header.threshold c.args.header.places c.args.bytes
+    (standing c.run_blank.result.kept) c.run_blank.new.answers _ c.run_blank.auto.answers c.run_blank.ensures.law.runs)

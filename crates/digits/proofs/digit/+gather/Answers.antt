@@ -4,7 +4,7 @@ use Rattle.polynomials.specs.Series.{Reads}
 use Rattle.digits.specs.declared.Shape.{Shape}
 use Rattle.digits.specs.Runs.{runs, Held}
 use Rattle.digits.specs.Digits.{column}
-use Rattle.digits.proofs.Arrays.{deep_one, held_rest, part_rest}
+use Rattle.digits.proofs.Arrays.{held_rest, part_rest}
 use Rattle.digits.proofs.Columns.{gathered_one, gathered_front, gathered_more}
 use Rattle.digits.proofs.digit.+gather.Goals as goal
 
@@ -15,11 +15,6 @@ returns-then-shape-eq0 g t c =
 pub returns-then-m-t : goal.returns-then-m-t
 returns-then-m-t g t c =
     gathered_front g.F.Field.numbers c.args.shape c.args.runs.now c.args.out.now c.clear.new.a c.args.t c.args.m c.requires.held c.requires.inside c.if-m-t.true c.requires.long c.clear.ensures
-
-pub rest-requires : goal.rest-requires
-rest-requires g t c =
-    let some : 0 < c.args.shape.degree = omega arith in
-    record { some = some; deep = deep_one g.F.Field.numbers c.args.shape c.args.runs.now c.requires.held some }
 
 pub gather-requires : goal.gather-requires
 gather-requires g t c κs within =

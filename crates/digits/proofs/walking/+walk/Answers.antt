@@ -31,13 +31,13 @@ loop-e-init g t c =
       refl,
       c.requires.all,
       c.requires.takes,
-      at_start F c.args.shape.degree (length c.args.digits.now) c.args.t (take c.args.t c.args.digits.now) (runs F c.args.shape.width c.args.runs.now) (length p) (poly F p) decides (omega arith) g.L.Leaf.visits c.root_span-span.result.from c.root_span-span.result.to c.args.leaf.now c.root_span-span.ensures,
+      at_start F c.args.shape.degree (length c.args.digits.now) c.args.t (take c.args.t c.args.digits.now) (runs F c.args.shape.width c.args.runs.now) (length p) (poly F p) decides (omega arith) g.L.Leaf.visits c.root_range-range.result.start c.root_range-range.result.end c.args.leaf.now c.root_range-range.ensures,
     )
 
 pub walk-requires : goal.walk-requires
 walk-requires g t c κs within =
     let F = g.F.Field.numbers in
-    let q : c.loop-e.e < F.q = omega (arith, c.loop-e-test.true, c.root_span-span.ensures.within) in
+    let q : c.loop-e.e < F.q = omega (arith, c.loop-e-test.true, c.root_range-range.ensures.within) in
     let long : length (set c.loop-e.digits c.args.t c.loop-e.e) ≡ length c.args.digits.now = length-set c.loop-e.digits c.args.t c.loop-e.e ∙ c.loop-e.auto.digits in
     let ne : c.args.t ≢ length c.args.digits.now = c.if-t-digits.false in (
       omega (arith, long, c.decreases, c.requires.place, ne),
@@ -69,7 +69,7 @@ loop-e-preserved g t c =
     let p = c.next_digit-polynomial.result in
     let decides : Decides (ring_of F) s.degree c.args.t (runs F s.width c.args.runs.now) (length p) (poly F p) =
     subst (λ (n : ℕ). Decides (ring_of F) s.degree c.args.t (runs F s.width c.args.runs.now) n (poly F p)) (sym c.next_digit-polynomial.ensures.long) c.next_digit-polynomial.ensures.decides in
-    let q : c.loop-e.e < F.q = omega (arith, c.loop-e-test.true, c.root_span-span.ensures.within) in
+    let q : c.loop-e.e < F.q = omega (arith, c.loop-e-test.true, c.root_range-range.ensures.within) in
     let inside : c.args.t < length c.args.digits.now = omega (arith, c.requires.place, c.if-t-digits.false) in
     elim c.if-evaluate-eq0.branch [
       | then-evaluate-eq0 w ↦
@@ -107,5 +107,5 @@ returns g t c =
       front = c.loop-e.invariant.2;
       all = c.loop-e.invariant.3;
       takes = c.loop-e.invariant.4;
-      walked = at_end F c.args.shape.degree (length c.args.digits.now) c.args.t (take c.args.t c.args.digits.now) (runs F c.args.shape.width c.args.runs.now) (length p) (poly F p) decides inside g.L.Leaf.visits c.root_span-span.result.from c.root_span-span.result.to c.loop-e.e c.root_span-span.ensures (omega (arith, c.loop-e-test.false)) c.loop-e.invariant.5;
+      walked = at_end F c.args.shape.degree (length c.args.digits.now) c.args.t (take c.args.t c.args.digits.now) (runs F c.args.shape.width c.args.runs.now) (length p) (poly F p) decides inside g.L.Leaf.visits c.root_range-range.result.start c.root_range-range.result.end c.loop-e.e c.root_range-range.ensures (omega (arith, c.loop-e-test.false)) c.loop-e.invariant.5;
     }

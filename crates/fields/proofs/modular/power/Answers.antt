@@ -1,7 +1,7 @@
 use mathlib.Core.Path.{◌∙◌}
 use Prim.Native.Nat.{◌<◌}
 use native.Mathlib.Omega.{arith}
-use Rattle.fields.proofs.Squaring.{Kept, even_turn, odd_turn, ends}
+use Rattle.fields.proofs.Squaring.{Kept, even_turn, odd_turn}
 use Rattle.fields.proofs.modular.power.Goals as goal
 use Rattle.fields.proofs.modular.power.Goals.{then-rest-eq1, else-rest-eq1}
 
@@ -19,6 +19,3 @@ loop-rest-preserved c =
       | else-rest-eq1 w ↦ even_turn q r x n _ _ (omega arith) c.loop-rest.invariant.0 w.result-is e
     ] in
     (kept.0, kept.1 ∙ c.loop-rest.invariant.1)
-
-pub returns : goal.returns
-returns c = ends c.args.q c.loop-rest.result c.loop-rest.factor c.loop-rest.rest (omega arith) c.loop-rest.invariant.0 ∙ c.loop-rest.invariant.1

@@ -13,8 +13,8 @@ returns g c =
     let s = meant c.args.sheet.now in
     let message = c.args.message.now in
     let code = c.in_ok-code.code in
-    let holds : Holds F.q (given_in s) code = subst (λ (q : ℕ). Holds q (given_in s) code) c.count.ensures c.in_ok-code.ensures.code in
-    let opened : None ≡ first_fault F.q (given_in s) = c.in_ok-code.ensures.fault ∙ ap (λ (q : ℕ). first_fault q (given_in s)) c.count.ensures in
+    let holds : Holds F.q (given_in s) code = subst (λ (q : ℕ). Holds q (given_in s) code) (c.Q.ensures ∙ g.met.F.Field.counts) c.in_ok-code.ensures.code in
+    let opened : None ≡ first_fault F.q (given_in s) = c.in_ok-code.ensures.fault ∙ ap (λ (q : ℕ). first_fault q (given_in s)) (c.Q.ensures ∙ g.met.F.Field.counts) in
     let told : None ≡ message_fault F.q s.threshold message =
     c.in_ok-issue.ensures.fault ∙ roomy F.q code.count code.threshold message code.places.1
     ∙ ap (λ (k : ℕ). message_fault F.q k message) holds.threshold in

@@ -1,5 +1,4 @@
-use Rattle.std.proofs.Common.{◌≡◌, ℕ, ◌-◌, take, ap, ◌∙◌, arith, length-take}
-use Rattle.polynomials.specs.Series.{poly}
+use Rattle.std.proofs.Common.{arith, length-take}
 use Rattle.polynomials.proofs.Readings.{become}
 use Rattle.digits.proofs.Arrays.{all_take}
 use Rattle.leaves.proofs.Rational.{cut_is}
@@ -8,13 +7,9 @@ use Rattle.leaves.proofs.reaching.front.Goals as goal
 pub pad-requires : goal.pad-requires
 pad-requires g c =
     let F = g.F.Field.numbers in
-    let l = length-take (c.args.n - 0) c.args.p.now in
-    record { all = all_take F (c.args.n - 0) c.args.p.now c.requires.all; room = omega (arith, l, c.requires.fits) }
+    let l = length-take c.args.n c.args.p.now in
+    record { all = all_take F c.args.n c.args.p.now c.requires.all; room = omega (arith, l, c.requires.fits) }
 
 pub returns : goal.returns
 returns g c =
-    let F = g.F.Field.numbers in
-    record {
-      long = c.pad.auto.out;
-      is = become c.pad.ensures (ap (λ (j : ℕ). poly F (take j c.args.p.now)) (let e : c.args.n - 0 ≡ c.args.n = omega arith in e) ∙ cut_is F c.args.n c.args.p.now c.requires.small);
-    }
+    record { long = c.pad.auto.out; is = become c.pad.ensures (cut_is g.F.Field.numbers c.args.n c.args.p.now c.requires.small) }

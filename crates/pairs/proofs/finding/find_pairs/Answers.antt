@@ -1,4 +1,4 @@
-use Rattle.std.proofs.Common.{◌≡◌, ℕ, ◌-◌, ◌≤◌, List, [], ◌∷◌, length, take, pos, ◌≤ℤ◌, ◌<ℤ◌, sym, ap, ◌∙◌, subst, ap₂, arith, w16, to_z, of_z}
+use Rattle.std.proofs.Common.{◌≡◌, ℕ, ◌≤◌, List, [], ◌∷◌, length, take, pos, ◌≤ℤ◌, ◌<ℤ◌, sym, ap, ◌∙◌, subst, ap₂, arith, w16, to_z, of_z}
 use Rattle.std.proofs.lemmas.Int.{ints}
 use Rattle.fields.specs.Numbers.{AllBelow}
 use Rattle.leaves.specs.declared.pairs.Pair.{Pair}
@@ -7,7 +7,7 @@ use Rattle.interpolant.specs.Problems.{Enough}
 use Rattle.interpolating.specs.Interpolation.{shape_of}
 use Rattle.interpolating.proofs.Bounds.{h11_below, h21_below}
 use Rattle.pairs.specs.Stage.{RootsOf, Fits, h11, h21, ToSift}
-use Rattle.pairs.proofs.Standing.{front, first_written}
+use Rattle.pairs.proofs.Standing.{first_written}
 use Rattle.pairs.proofs.Cases.{none, single, exists, has_room, several}
 use Rattle.pairs.proofs.finding.find_pairs.Goals as goal
 
@@ -16,16 +16,16 @@ returns-then-basis-lt0 g c =
     let neg : c.args.basis.now.w2 <ℤ pos 0 = omega (arith, ints) in
     record {
       count = omega arith;
-      pairs = none g.F.Field.numbers c.args.received.points.now c.args.received.multipliers.now c.args.threshold c.args.received.shares.now c.args.setting
+      pairs = none g.F.Field.numbers c.args.received.now.points.now c.args.received.now.multipliers.now c.args.threshold c.args.received.now.shares.now c.args.setting
           c.requires.given c.args.basis.now c.requires.found neg;
     }
 
 pub returns-then-basis-lt0-2 : goal.returns-then-basis-lt0-2
 returns-then-basis-lt0-2 g c =
     let F = g.F.Field.numbers in
-    let αs = c.args.received.points.now in
-    let vs = c.args.received.multipliers.now in
-    let rs = c.args.received.shares.now in
+    let αs = c.args.received.now.points.now in
+    let vs = c.args.received.now.multipliers.now in
+    let rs = c.args.received.now.shares.now in
     let k = c.args.threshold in
     let x = c.args.setting in
     let neg : c.args.basis.now.w1 <ℤ pos 0 = omega (arith, ints) in
@@ -41,9 +41,9 @@ returns-then-basis-lt0-2 g c =
 pub interpolate_roots-requires : goal.interpolate_roots-requires
 interpolate_roots-requires g c =
     let F = g.F.Field.numbers in
-    let αs = c.args.received.points.now in
-    let vs = c.args.received.multipliers.now in
-    let rs = c.args.received.shares.now in
+    let αs = c.args.received.now.points.now in
+    let vs = c.args.received.now.multipliers.now in
+    let rs = c.args.received.now.shares.now in
     let k = c.args.threshold in
     let x = c.args.setting in
     let p = c.requires.given.placed in
@@ -55,8 +55,8 @@ interpolate_roots-requires g c =
     let e : c.shape.result ≡ shape_of c.args.setting c.args.basis.now.w1 c.args.basis.now.w2 = c.shape.ensures ∙ ap₂ (shape_of x) e₁ e₂ in
     record {
       points = p.points;
-      first = subst (AllBelow F.q) (sym (front B.d B.h11 (h11 F αs vs k rs) c.requires.found.h11)) (h11_below F αs vs k rs p.points p.multipliers p.shares);
-      second = subst (AllBelow F.q) (sym (front B.d B.h21 (h21 F αs vs k rs) c.requires.found.h21)) (h21_below F αs vs k rs p.points p.multipliers p.shares);
+      first = subst (AllBelow F.q) (sym c.requires.found.h11) (h11_below F αs vs k rs p.points p.multipliers p.shares);
+      second = subst (AllBelow F.q) (sym c.requires.found.h21) (h21_below F αs vs k rs p.points p.multipliers p.shares);
       enough = subst (λ (S : Shape). Enough S (length αs)) (sym e) (exists F αs vs k rs x c.requires.given B c.requires.found h₁ h₂);
       fits = subst (λ (S : Shape). Fits S (length αs) (length c.args.work.now)) (sym e)
           (has_room F αs vs k rs x c.requires.given B c.requires.found h₁ h₂ (length c.args.work.now) c.requires.numbers);
@@ -66,9 +66,9 @@ interpolate_roots-requires g c =
 pub returns : goal.returns
 returns g c =
     let F = g.F.Field.numbers in
-    let αs = c.args.received.points.now in
-    let vs = c.args.received.multipliers.now in
-    let rs = c.args.received.shares.now in
+    let αs = c.args.received.now.points.now in
+    let vs = c.args.received.now.multipliers.now in
+    let rs = c.args.received.now.shares.now in
     let k = c.args.threshold in
     let x = c.args.setting in
     let B = c.args.basis.now in
@@ -80,9 +80,9 @@ returns g c =
     let e₂ : to_z w16 (of_z w16 c.args.basis.now.w2) ≡ c.args.basis.now.w2 = omega (arith, ints) in
     let e : c.shape.result ≡ shape_of c.args.setting c.args.basis.now.w1 c.args.basis.now.w2 = c.shape.ensures ∙ ap₂ (shape_of x) e₁ e₂ in
     let r : RootsOf F (shape_of x B.w1 B.w2) αs (h11 F αs vs k rs) (h21 F αs vs k rs) n area =
-    subst (λ (h : List ℕ). RootsOf F (shape_of x B.w1 B.w2) αs (h11 F αs vs k rs) h n area) (front B.d B.h21 (h21 F αs vs k rs) c.requires.found.h21)
-    (subst (λ (h : List ℕ). RootsOf F (shape_of x B.w1 B.w2) αs h (take (B.d - 0) B.h21) n area) (front B.d B.h11 (h11 F αs vs k rs) c.requires.found.h11)
-    (subst (λ (S : Shape). RootsOf F S αs (take (B.d - 0) B.h11) (take (B.d - 0) B.h21) n area) e c.interpolate_roots.ensures)) in
+    subst (λ (h : List ℕ). RootsOf F (shape_of x B.w1 B.w2) αs (h11 F αs vs k rs) h n area) c.requires.found.h21
+    (subst (λ (h : List ℕ). RootsOf F (shape_of x B.w1 B.w2) αs h (take B.d B.h21) n area) c.requires.found.h11
+    (subst (λ (S : Shape). RootsOf F S αs (take B.d B.h11) (take B.d B.h21) n area) e c.interpolate_roots.ensures)) in
     record {
       count = r.listed.fits;
       pairs = several F αs vs k rs x c.requires.given B c.requires.found h₁ h₂ n area r;

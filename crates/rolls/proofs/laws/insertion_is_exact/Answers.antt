@@ -3,4 +3,4 @@ use Rattle.rolls.proofs.laws.insertion_is_exact.Goals as goal
 
 pub returns : goal.returns
 returns g c =
-    record { exact = insertion_exact g.met.T.Ordered.order; unique = order_unique g.met.T.Ordered.order }
+    let order = g.met.T.Ordered.order.order in record { exact = insertion_exact order; unique = order_unique order }

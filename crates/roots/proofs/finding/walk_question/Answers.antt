@@ -2,9 +2,7 @@ use Rattle.std.proofs.Common.{◌≡◌, ℕ, ◌+◌, ◌*◌, [], length, refl
 use Rattle.fields.specs.Numbers.{Element}
 use Rattle.digits.specs.Runs.{runs}
 use Rattle.digits.specs.Walks.{Ends, Walked}
-use Rattle.roots.specs.declared.finding.Finder.{Finder}
-use Rattle.roots.specs.Asked.{asked}
-use Rattle.roots.specs.Desk.{Desk, desk, Visit}
+use Rattle.roots.specs.Desk.{desk_of, loans, Visit}
 use Rattle.roots.proofs.Seats.{held_spread, ready, walked_part, walked_kept}
 use Rattle.roots.proofs.finding.walk_question.Goals as goal
 
@@ -21,13 +19,6 @@ walk-requires g c =
       takes = λ ds e a. ready F _ ds c.requires.seated (e ∙ l ∙ c.requires.depth) a;
     }
 
-module _ {X : Type 0} where
-  abbrev desk_of : Finder X → Desk
-  desk_of s = desk s.chart (asked s.question) (length s.work.now) s.slots.now s.len
-
-  abbrev kept : Finder X → ℕ
-  kept s = s.slots.ghost_name
-
 pub returns : goal.returns
 returns g c =
     let F = g.F.Field.numbers in
@@ -36,6 +27,6 @@ returns g c =
       walked =
           subst (λ (T : ℕ → ℕ → Element F). Walked (Visit F) (Ends F c.args.finder.now.question.degree (length c.args.digits.now) 0 [] T) (desk_of c.args.finder.now) (desk_of c.walk.new.leaf)) c.spread.ensures.is
           (subst (λ (N : ℕ). Walked (Visit F) (Ends F c.args.finder.now.question.degree N 0 [] (runs F (c.args.finder.now.question.length + c.args.finder.now.question.degree * length c.args.digits.now) c.spread.new.out)) (desk_of c.args.finder.now) (desk_of c.walk.new.leaf)) c.clear.auto.a
-          (walked_part (Visit F) desk_of kept w));
-      lender = walked_kept (Visit F) desk_of kept w;
+          (walked_part (Visit F) desk_of loans w));
+      lenders = walked_kept (Visit F) desk_of loans w;
     }

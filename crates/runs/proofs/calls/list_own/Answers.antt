@@ -1,16 +1,17 @@
-use Rattle.std.proofs.Common.{◌≡◌, ◌-◌, min, length, take, sym, ap, subst, arith, length-take}
-use Rattle.collections.specs.Standing.{standing, shares}
-use Rattle.listings.specs.Calls.{listing_fault}
-use Rattle.runs.specs.Law.{Reply, RightList}
-use Rattle.runs.proofs.Own.{own_list}
+use Rattle.std.proofs.Common.{length, arith, length-take}
+use Rattle.std.proofs.lemmas.Result.{err_from_is_err_and}
+use Rattle.collections.specs.Standing.{standing}
+use Rattle.runs.proofs.Own.{own_listed, own_refused}
 use Rattle.runs.proofs.calls.list_own.Goals as goal
+
+pub returns-in_err-count : goal.returns-in_err-count
+returns-in_err-count g c =
+    let p = err_from_is_err_and c.from_residual.result c.from_residual.ensures.1 in
+    rw (p.1, p.2)
+    (own_refused g.F.Field.numbers (standing c.args.c.now.kept) c.args.records _ (length c.args.work.now) c.args.c.now.sound.1 (simp length-take (omega arith))
+    c.in_err-count.field-0.0 c.in_err-count.ensures.fault)
 
 pub returns : goal.returns
 returns g c =
-    let F = g.F.Field.numbers in
-    let b = standing c.args.c.now.kept in
-    let w = length c.args.work.now in
-    let all : length c.no_records-out.result ≡ 8 = ap length c.no_records-out.ensures in
-    let room : length (take (c.min-room.result - 0) c.no_records-out.result) ≡ min c.args.records 8 = simp length-take (omega arith) in
-    subst (λ (a : Reply). RightList F b (listing_fault F.q b (shares b) c.args.records w) a) (sym c.listed.ensures)
-    (own_list F b c.args.records _ w c.requires.1 room c.list-r.result _ c.list-r.new.out _ c.list-r.ensures.fault c.list-r.ensures.area)
+    own_listed g.F.Field.numbers (standing c.args.c.now.kept) c.args.records _ (length c.args.work.now) c.args.c.now.sound.1 (simp length-take (omega arith))
+    c.in_ok-count.count _ c.list.new.out _ c.in_ok-count.ensures.fault c.in_ok-count.ensures.area

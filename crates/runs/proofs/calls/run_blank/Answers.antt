@@ -11,9 +11,8 @@ returns g c =
     let e = c.run.ensures in
     record {
       law =
-          blank_law F g.F.Field.tag lent c.run.result n (standing c.new-c.result.kept) (standing c.run.new.c.kept) c.args.calls.now
-          c.run.new.answers c.new-c.ensures.book e.count e.runs;
+          blank_law F g.F.Field.SHEET_NUMBER lent c.run.result n (standing c.new-c.result.kept) (standing c.run.new.c.kept) c.args.calls.now
+          c.run.new.answers c.new-c.ensures e.count e.runs;
       rest = same_rest c.run.new.answers c.args.answers.now c.run.result n e.count e.rest;
-      sound = e.sound;
       wiped = e.wiped;
     }

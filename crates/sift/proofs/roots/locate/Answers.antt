@@ -1,8 +1,8 @@
-use Rattle.std.proofs.Common.{◌≡◌, ◌≤◌, length, take, ap, arith}
+use Rattle.std.proofs.Common.{◌≤◌, length, ap, arith}
 use Rattle.std.proofs.lemmas.List.{take_all}
 use Rattle.algebra.specs.Poly.{conv, padd}
 use Rattle.fields.specs.Numbers.{ring_of}
-use Rattle.polynomials.specs.Series.{poly, Reads}
+use Rattle.polynomials.specs.Series.{poly}
 use Rattle.polynomials.proofs.Readings.{become}
 use Rattle.sift.proofs.Splitting.{sum_none, sum_turn}
 use Rattle.sift.proofs.roots.locate.Goals as goal
@@ -19,11 +19,3 @@ loop-i-preserved g c =
     become c.add_shifted_multiple.ensures
     (sum_turn F (conv (ring_of F) (poly F c.args.f1.now) (poly F c.args.h1.now)) (poly F c.loop-i.out) c.args.f2.now c.args.h2.now
     c.loop-i.i (omega arith) c.loop-i.invariant.is)
-
-pub returns : goal.returns
-returns g c =
-    let F = g.F.Field.numbers in
-    let f2 = c.args.f2.now in
-    become c.loop-i.invariant
-    (ap (λ l. padd (ring_of F) (conv (ring_of F) (poly F c.args.f1.now) (poly F c.args.h1.now)) (conv (ring_of F) (poly F l) (poly F c.args.h2.now)))
-    (take_all c.loop-i.i f2 (let h : length f2 ≤ c.loop-i.i = omega arith in h)))

@@ -1,7 +1,8 @@
-use Rattle.std.proofs.Common.{◌≡◌, ℕ, ◌+◌, T, eqb, length, sym, ap, ◌∙◌, subst, arith, eqb→eq, rules}
+use Rattle.std.proofs.Common.{◌≡◌, ℕ, ◌+◌, T, eqb, length, ap, ◌∙◌, subst, arith, eqb→eq}
 use lib.Dec.{eqb_refl}
 use Rattle.algebra.specs.Sums.{count}
 use Rattle.sift.specs.Roots.{vanishes}
+use Rattle.sift.proofs.Counts.{count_marked}
 use Rattle.sift.proofs.Splitting.{splits_yes, splits_no}
 use Rattle.sift.proofs.roots.splits.Goals as goal
 
@@ -12,7 +13,7 @@ returns g c =
     let s = c.size.result in
     let n = c.zeros.result in
     let e : n ≡ count (length c.args.points.now) (vanishes c.values_at.new.out) =
-    c.zeros.ensures.is ∙ ap (λ (m : ℕ). count m (vanishes c.values_at.new.out)) (let l : length c.values_at.new.out ≡ length c.args.points.now = omega arith in l) in
+    c.zeros.ensures ∙ count_marked (λ x. eqb x 0) c.values_at.new.out ∙ ap (λ (m : ℕ). count m (vanishes c.values_at.new.out)) (let l : length c.values_at.new.out ≡ length c.args.points.now = omega arith in l) in
     record {
       written = v;
       yes = λ t. splits_yes F v s n c.size.ensures.is e (eqb→eq s (n + 1) t);

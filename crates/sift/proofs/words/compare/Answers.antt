@@ -1,5 +1,4 @@
-use Rattle.std.proofs.Common.{◌≡◌, ℕ, ◌+◌, ◌<◌, ◌≤◌, true, false, length, get_or, sym, ap, ◌∙◌, add-zero, arith, below_more}
-use Rattle.algebra.specs.Sums.{count}
+use Rattle.std.proofs.Common.{ℕ, ◌+◌, true, false, sym, ap, ◌∙◌, add-zero, arith, below_more}
 use Rattle.sift.specs.Reading.{differs}
 use Rattle.sift.proofs.Counts.{count_none, count_more}
 use Rattle.sift.proofs.Gathering.{differs_yes, differs_no}

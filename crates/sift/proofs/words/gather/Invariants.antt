@@ -4,4 +4,4 @@ use Rattle.sift.proofs.words.gather.Given as goal
 
 abbrev pub invariant-loop-j : goal.invariant-loop-j
 invariant-loop-j g l =
-    Gathering g.F.Field.numbers l.points l.multipliers l.shares l.values (length l.initial.xs) l.j l.i l.xs l.ys
+    Gathering g.F.Field.numbers l.received.points.now l.received.multipliers.now l.received.shares.now l.values (length l.initial.xs) l.j l.i l.xs l.ys

@@ -1,5 +1,5 @@
 use Rattle.std.proofs.Common.{drop}
-use Rattle.collections.specs.Standing.{standing, Sound}
+use Rattle.collections.specs.Standing.{standing}
 use Rattle.transfer.specs.Loading.{enterings}
 use Rattle.transfer.proofs.Acts.{Done}
 use Rattle.transfer.proofs.loading.enter_all.Given as goal
@@ -9,4 +9,3 @@ invariant-loop-i g l =
     let q = g.F.Field.numbers.q in
     let xs = g.S.Source.told l.source in
     Done q (standing l.initial.c.kept) (enterings 0 xs) (standing l.c.kept) (enterings l.i (drop l.i xs))
-    × (Sound q l.initial.c.kept → Sound q l.c.kept)

@@ -20,9 +20,8 @@ returns-in_err-open_by g c =
     record {
       fault =
           ap fault_of p.1 ∙ ap Some p.2
-          ∙ sym (opens_refused q (standing c.args.c.now.kept) n (given_in s) (enterings 0 (shares_in s)) c.in_err-open_by.field-0.0 e c.in_ok-still_blank.ensures c.new-new.ensures.book right);
+          ∙ sym (opens_refused q (standing c.args.c.now.kept) n (given_in s) (enterings 0 (shares_in s)) c.in_err-open_by.field-0.0 e c.in_ok-still_blank.ensures c.new-new.ensures right);
       book = IfOk-from_err c.from_residual-in_err-open_by.result _ c.from_residual-in_err-open_by.ensures.0;
-      sound = IfOk-from_err c.from_residual-in_err-open_by.result _ c.from_residual-in_err-open_by.ensures.0;
     }
 
 pub returns-in_err-enter_all : goal.returns-in_err-enter_all
@@ -33,11 +32,10 @@ returns-in_err-enter_all g c =
     let n = standing c.new-new.result.kept in
     let e = standing c.open_by.new.c.kept in
     let right = subst (λ r. Right q n (opening (given_in s)) (said r) e) c.in_ok-open_by.was c.open_by.ensures.right in
-    let first = opens_first q (standing c.args.c.now.kept) n (given_in s) (enterings 0 (shares_in s)) e c.in_ok-still_blank.ensures c.new-new.ensures.book right in
+    let first = opens_first q (standing c.args.c.now.kept) n (given_in s) (enterings 0 (shares_in s)) e c.in_ok-still_blank.ensures c.new-new.ensures right in
     record {
       fault = ap fault_of p.1 ∙ ap Some p.2 ∙ c.in_err-enter_all.ensures.fault ∙ sym first.fault;
       book = IfOk-from_err c.from_residual-in_err-enter_all.result _ c.from_residual-in_err-enter_all.ensures.0;
-      sound = IfOk-from_err c.from_residual-in_err-enter_all.result _ c.from_residual-in_err-enter_all.ensures.0;
     }
 
 pub returns : goal.returns
@@ -47,9 +45,8 @@ returns g c =
     let n = standing c.new-new.result.kept in
     let e = standing c.open_by.new.c.kept in
     let right = subst (λ r. Right q n (opening (given_in s)) (said r) e) c.in_ok-open_by.was c.open_by.ensures.right in
-    let first = opens_first q (standing c.args.c.now.kept) n (given_in s) (enterings 0 (shares_in s)) e c.in_ok-still_blank.ensures c.new-new.ensures.book right in
+    let first = opens_first q (standing c.args.c.now.kept) n (given_in s) (enterings 0 (shares_in s)) e c.in_ok-still_blank.ensures c.new-new.ensures right in
     record {
       fault = c.in_ok-enter_all.ensures.fault ∙ sym first.fault;
       book = c.in_ok-enter_all.ensures.book ∙ sym first.book;
-      sound = c.enter_all.ensures.sound (c.open_by.ensures.sound c.new-new.ensures.sound);
     }

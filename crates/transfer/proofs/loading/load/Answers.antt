@@ -7,7 +7,7 @@ use Rattle.transfer.proofs.loading.load.Goals as goal
 pub returns : goal.returns
 returns g c =
     let q = g.F.Field.numbers.q in
-    let tag = g.F.Field.tag in
+    let tag = g.F.Field.SHEET_NUMBER in
     let b = standing c.args.c.now.kept in
     let bs = c.args.bytes.now in
     let e = standing c.in_ok-loaded.loaded.kept in
@@ -15,6 +15,5 @@ returns g c =
     record {
       right = right;
       same = tt;
-      sound = search rules;
       back = loads_back q tag b bs e (λ i. let h = c.type_inv.bytes i in omega arith) right;
     }

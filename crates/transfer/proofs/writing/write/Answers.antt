@@ -12,7 +12,7 @@ returns g c =
     let o = c.in_ok-opened.opened.now in
     let e = c.in_ok-opened.ensures in
     let out = c.args.out.now in
-    let tag = g.F.Field.tag in
+    let tag = g.F.Field.SHEET_NUMBER in
     let n = c.count.ensures in
     let size = size_open tag k o e in
     let enough : 9 + 6 * o.code.count ≤ length out = omega arith in
@@ -25,5 +25,5 @@ returns g c =
       fault = sym (room k o (length out) e enough);
       area = area;
       count = count;
-      again = λ h. kept_again g.F.Field.numbers.q tag k o _ e h (ap₂ take count area ∙ take-append_seam (bytes_of tag (standing k)) _);
+      again = kept_again g.F.Field.numbers.q tag k o _ e c.args.c.now.sound (ap₂ take count area ∙ take-append_seam (bytes_of tag (standing k)) _);
     }

@@ -1,6 +1,7 @@
-use Rattle.std.proofs.Common.{sym}
-use Rattle.std.proofs.lemmas.List.FromFn.{length-map-range_with_len}
+use Rattle.std.proofs.Common.{sym, ◌∙◌}
+use Rattle.sheets.specs.Reading.{meant}
+use Rattle.sheets.proofs.Told.{told_count}
 use Rattle.sheets.proofs.reading.ReaderSource.count.Goals as goal
 
 pub returns : goal.returns
-returns c = sym (length-map-range_with_len _ 0 _)
+returns c = c.places.ensures.is ∙ sym (told_count (meant c.args.self.now))

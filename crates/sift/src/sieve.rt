@@ -1,0 +1,25 @@
+// What pairs are sifted by.
+ghost use Rattle.std.specs.Prelude.{◌≡◌, ◌≤◌, length};
+ghost use Rattle.fields.specs.Numbers.{AllBelow};
+ghost use Rattle.sift.specs.Interpolation.{Distinct};
+ghost use Rattle.sift.specs.Received.{NonZero};
+
+use fields::Field;
+use received::Received;
+
+// What came in for the places of a code, the threshold and the radius, and the second entries h1, h2 of the two rows at which Euclid's algorithm stops.
+// The points are distinct, and no point and no multiplier is 0.
+#[derive(Drop)]
+pub struct Sieve<'a, F: Field> {
+    pub received: Received<'a, F>,
+    pub threshold: usize,
+    pub radius: usize,
+    pub h1: &'a [u16],
+    pub h2: &'a [u16],
+    pub ghost distinct: { Distinct received.points.now },
+    pub ghost points_nonzero: { NonZero received.points.now },
+    pub ghost multipliers_nonzero: { NonZero received.multipliers.now },
+    pub ghost fewer: { threshold ≤ length received.points.now },
+    pub ghost first_row: { AllBelow F.Field.numbers.q h1.now },
+    pub ghost second_row: { AllBelow F.Field.numbers.q h2.now },
+}
