@@ -24,7 +24,7 @@ fn add_product(sum: &mut [u16], a: &[u16], b: &[u16]) {
 }
 
 // a b, without what lies beyond the form's last number.
-pub fn times(a: &[u16], b: &[u16]) -> [u16; FORM] {
+pub(crate) fn times(a: &[u16], b: &[u16]) -> [u16; FORM] {
     let mut sum = [0; FORM];
     add_product(&mut sum, a, b);
     sum
