@@ -5,6 +5,7 @@ ghost use Rattle.std.specs.Prelude.{◌≡◌, length};
 ghost use Rattle.fields.specs.Numbers.{AllBelow};
 
 use fields::Field;
+use std::alloc::AllocError;
 use std::marker::PhantomData;
 
 // A point, a multiplier and a share for each place, all of them elements of the field.
@@ -20,6 +21,15 @@ pub struct Received<'a, F: Field> {
     pub ghost a_multiplier_each: { length multipliers.now ≡ length points.now },
     pub ghost a_share_each: { length shares.now ≡ length points.now },
 }
+
+// By hand, since nothing is to be asked of F, and a struct with ghost fields derives no `Clone`.
+impl<'a, F: Field> Clone for Received<'a, F> {
+    fn clone(&self) -> Result<Received<'a, F>, AllocError> {
+        Ok(*self)
+    }
+}
+
+impl<'a, F: Field> Copy for Received<'a, F> {}
 
 impl<'a, F: Field> Received<'a, F> {
     // The three lists as they are.

@@ -6,6 +6,7 @@ ghost use Rattle.sift.specs.Received.{NonZero};
 
 use fields::Field;
 use received::Received;
+use std::alloc::AllocError;
 
 // What came in for the places of a code, the threshold and the radius, and the second entries h1, h2 of the two rows at which Euclid's algorithm stops.
 // The points are distinct, and no point and no multiplier is 0.
@@ -23,3 +24,12 @@ pub struct Sieve<'a, F: Field> {
     pub ghost first_row: { AllBelow F.Field.numbers.q h1.now },
     pub ghost second_row: { AllBelow F.Field.numbers.q h2.now },
 }
+
+// By hand, as `Received`.
+impl<'a, F: Field> Clone for Sieve<'a, F> {
+    fn clone(&self) -> Result<Sieve<'a, F>, AllocError> {
+        Ok(*self)
+    }
+}
+
+impl<'a, F: Field> Copy for Sieve<'a, F> {}
