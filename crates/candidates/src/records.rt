@@ -1,6 +1,7 @@
 // Candidates as records, and their order. Only `sift_pair` writes the parts of a record.
+ghost use Rattle.std.specs.Prelude.{◌≡◌};
 ghost use Rattle.candidates.specs.Order.{in_order};
-ghost use Rattle.candidates.specs.Orders.{candidates_compare};
+ghost use Rattle.candidates.specs.Orders.{in_order_total};
 
 use rolls::Ordered;
 
@@ -25,5 +26,9 @@ impl Candidate {
 impl Ordered for Candidate {
     ghost less = { in_order };
 
-    ghost order = { candidates_compare };
+    ghost order = { in_order_total };
+
+    fn precedes(&self, other: &Candidate) -> bool {
+        *self < *other
+    }
 }

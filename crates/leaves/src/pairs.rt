@@ -1,7 +1,7 @@
 // Pairs of polynomials as records, and their order.
 ghost use Rattle.std.specs.Prelude.{◌≡◌};
 ghost use Rattle.leaves.specs.Order.{in_order, arranged};
-ghost use Rattle.leaves.specs.Ordering.{pairs_compare};
+ghost use Rattle.leaves.specs.Ordering.{pair_order};
 
 use rolls::Ordered;
 
@@ -23,7 +23,11 @@ impl Pair {
 impl Ordered for Pair {
     ghost less = { in_order };
 
-    ghost order = { pairs_compare };
+    ghost order = { pair_order };
+
+    fn precedes(&self, other: &Pair) -> bool {
+        *self < *other
+    }
 }
 
 // The charts of the walk: in the direct one the digits are those of f2 / f1, and in the turned one those of f1 / f2.

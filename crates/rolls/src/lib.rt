@@ -1,7 +1,7 @@
 // An ordered roll without repeats over slots that the caller lends.
 #![tactic(auto)]
 
-ghost use Rattle.std.specs.Prelude.{◌≡◌, ◌≤◌, length, min};
+ghost use Rattle.std.specs.Prelude.{◌≡◌};
 
 mod entering;
 mod laws;
@@ -12,12 +12,11 @@ pub use laws::{dictionary_is_total, insertion_is_exact};
 pub use ordered::Ordered;
 pub use slots::RollFault;
 
-// The first `len` slots are the items. A slice and a count, since there is no heap: the slots are the caller's.
+// The first `len` slots are the items, and all slots where there are not so many. A slice and a count, since there is no heap: the slots are the caller's.
 #[derive(Drop)]
 pub struct Roll<'a, T> {
     slots: &'a mut [T],
     len: usize,
-    ghost fits: { len ≤ length slots.now },
 }
 
 impl<'a, T> Roll<'a, T> {
@@ -29,13 +28,12 @@ impl<'a, T> Roll<'a, T> {
         Roll { slots, len: 0 }
     }
 
-    // The roll whose items are the first `len` slots, or all slots if there are not so many, to go on with.
+    // The roll whose items are the first `len` slots, to go on with.
     pub fn resume(slots: &'a mut [T], len: usize) -> Self
-        ensures count { result.len ≡ min len (length slots.old) }
+        ensures count { result.len ≡ len }
         ensures lender { result.slots.ghost_name ≡ slots.entry.ghost_name }
         ensures same { result.slots.now ≡ slots.old }
     {
-        let len = len.min(slots.len());
         Roll { slots, len }
     }
 

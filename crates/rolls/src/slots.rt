@@ -1,7 +1,6 @@
 // The roll's work, on plain slots.
 ghost use Rattle.std.specs.Prelude.{◌≡◌, ℕ, ◌+◌, ◌-◌, ◌<◌, ◌≤◌, ◌∷◌, length, take};
 ghost use Rattle.std.specs.List.{prefix_len};
-ghost use Rattle.std.specs.Ordering.{partial_lt};
 ghost use Rattle.rolls.specs.Insertion.{Inserted, grown};
 
 use super::ordered::Ordered;
@@ -14,9 +13,9 @@ pub enum RollFault {
 // How many items from the first on come before x.
 fn lower<T: Ordered>(items: &[T], x: &T) -> usize
     ensures bound { result ≤ length items.now }
-    ensures value { result ≡ prefix_len (λ item. partial_lt T.PartialOrd.partial_cmp item x.now) items.now }
+    ensures value { result ≡ prefix_len (λ item. T.Ordered.less item x.now) items.now }
 {
-    items.iter().take_while(|item| **item < *x).count()
+    items.iter().take_while(|item| item.precedes(x)).count()
 }
 
 // Opens a place at the front of the row, which loses its last element, and writes x there.
@@ -34,7 +33,7 @@ pub(crate) fn place<T: Ordered>(slots: &mut [T], len: usize, x: T) -> Result<boo
     ensures { Inserted T.Ordered.less x slots.old len result slots.new (grown len result) }
 {
     let i = lower(&slots[0..len], &x);
-    if i < len && !(x < slots[i]) {
+    if i < len && !x.precedes(&slots[i]) {
         return Ok(false);
     }
     if len == slots.len() {

@@ -95,7 +95,7 @@ module _ (F : Numbers) (a : Asked) (room : ℕ) (long : length a.form ≡ (a.ℓ
     pub direct_stays : Stays (direct r slots 0) walks.0
     direct_stays = first.0.0
 
-    direct_fits : n₁ ≤ length slots₁
+    pub direct_fits : n₁ ≤ length slots₁
     direct_fits = let h = first.0.1 in omega (arith, ap length walks.2, walks.3)
 
     pub direct_room : length slots₁ ≡ room

@@ -1,5 +1,5 @@
 -- The two walks as the code makes them: the second goes on from the desk that the first one left, with the turned form and the bounds exchanged.
-use Rattle.std.proofs.Common.{◌≡◌, ℕ, suc, ◌+◌, List, [], length, refl, ◌∙◌, subst, ap₂}
+use Rattle.std.proofs.Common.{◌≡◌, ℕ, suc, ◌+◌, ◌≤◌, List, [], length, refl, ◌∙◌, subst, ap₂}
 use Rattle.fields.specs.Numbers.{Numbers}
 use Rattle.rolls.specs.Insertion.{cleared}
 use Rattle.digits.specs.Runs.{runs}
@@ -10,7 +10,7 @@ use Rattle.leaves.specs.declared.pairs.Chart.TheVariants.{Direct, Turned}
 use Rattle.roots.specs.Asked.{Asked, Answerable}
 use Rattle.roots.specs.Answer.{blank, Listed}
 use Rattle.roots.specs.Desk.{Desk, desk, turned_asked, Turns, Stays, Visit, Walks}
-use Rattle.roots.proofs.Gathered.{direct_stays, listed}
+use Rattle.roots.proofs.Gathered.{direct_stays, direct_fits, listed}
 
 module _ (F : Numbers) where
   abbrev Walk : Chart → Asked → ℕ → List Pair → ℕ → ℕ → Desk → Type 0
@@ -28,6 +28,9 @@ module _ (F : Numbers) where
 
     pub stays : Stays (desk Direct a r slots 0) d₁
     stays = direct_stays F a (length slots) x.long x.all x.some x.enough r slots d₁.slots d₁.len refl first
+
+    pub first_fits : d₁.len ≤ length d₁.slots
+    first_fits = direct_fits F a (length slots) x.long x.all x.some x.enough r slots d₁.slots d₁.len refl first
 
     module _ (b : Asked) (t : Turns F a b) {M : ℕ} (d₂ : Desk) (eM : M ≡ suc (b.w₁ + b.w₂)) (w' : Walk Turned b d₁.room d₁.slots d₁.len M d₂) where
       second : Walks F (desk Turned (turned_asked a b.form) d₁.room d₁.slots d₁.len) d₂.slots d₂.len

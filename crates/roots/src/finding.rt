@@ -27,6 +27,7 @@ pub(crate) struct Finder<'f, 'w, 'r, 's, F> {
 // Enters what was found.
 fn enter(roll: &mut Roll<Pair>, found: Option<Pair>)
     ensures entered { Entered found roll.old.slots.now roll.old.len roll.new.slots.now roll.new.len }
+    ensures fits { roll.old.len ≤ length roll.old.slots.now → roll.new.len ≤ length roll.new.slots.now }
     ensures lender { roll.new.slots.ghost_name ≡ roll.old.slots.ghost_name }
 {
     if let Some(pair) = found {

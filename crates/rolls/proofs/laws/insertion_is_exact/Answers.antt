@@ -3,4 +3,4 @@ use Rattle.rolls.proofs.laws.insertion_is_exact.Goals as goal
 
 pub returns : goal.returns
 returns g c =
-    let order = g.met.T.Ordered.order.order in record { exact = insertion_exact order; unique = order_unique order }
+    let order = g.met.T.Ordered.order in record { exact = insertion_exact order; unique = order_unique order }

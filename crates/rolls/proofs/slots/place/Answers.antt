@@ -1,38 +1,33 @@
 use Rattle.std.proofs.Common.{true, false, refl, arith}
-use Rattle.std.specs.Ordering.{partial_lt}
-use Rattle.rolls.proofs.Orders.{goes_by}
-use Rattle.rolls.proofs.Placing.{retold, told_known, told_full, told_new, exact, within, by_default}
+use Rattle.rolls.proofs.Placing.{told_known, told_full, told_new, exact, within, by_default}
 use Rattle.rolls.proofs.slots.place.Goals as goal
-use Rattle.rolls.proofs.slots.place.Goals.{else-i-len-via-then-i-len+else-not-lt, else-i-len-via-else-i-len}
+use Rattle.rolls.proofs.slots.place.Goals.{else-i-len-via-then-i-len+else-not-precedes, else-i-len-via-else-i-len}
 
-pub returns-then-not-lt : goal.returns-then-not-lt
-returns-then-not-lt g c =
-    let less = partial_lt g.T.PartialOrd.partial_cmp in
-    retold (goes_by g.met.T.Ordered.order g.met.T.Ord.matches_partial_cmp)
+pub returns-then-not-precedes : goal.returns-then-not-precedes
+returns-then-not-precedes g c =
+    let less = g.T.Ordered.less in
     (told_known less c.args.x c.args.slots.now c.args.len c.lower-i.result c.args.x c.requires (exact less c.args.x c.args.slots.now c.args.len c.lower-i.result c.lower-i.ensures.value) c.if-i-len.true
-    (by_default less c.args.x c.args.slots.now c.lower-i.result c.index-slots-i.result false (omega arith) c.if-not-lt.ensures))
+    (by_default less c.args.x c.args.slots.now c.lower-i.result c.index-slots-i.result false (omega arith) c.if-not-precedes.ensures))
 
 pub returns-then-len-slots : goal.returns-then-len-slots
 returns-then-len-slots g c =
-    let less = partial_lt g.T.PartialOrd.partial_cmp in
-    retold (goes_by g.met.T.Ordered.order g.met.T.Ord.matches_partial_cmp)
+    let less = g.T.Ordered.less in
     (told_full less c.args.x c.args.slots.now c.args.len c.lower-i.result c.args.x c.requires (exact less c.args.x c.args.slots.now c.args.len c.lower-i.result c.lower-i.ensures.value)
     (within less c.args.x c.args.slots.now c.args.len c.lower-i.result c.lower-i.ensures.bound)
     (elim c.else-i-len.branch [
-      | else-i-len-via-then-i-len+else-not-lt w ↦ λ h. by_default less c.args.x c.args.slots.now c.lower-i.result w.index-slots-i.result true (omega arith) w.if-not-lt.ensures
+      | else-i-len-via-then-i-len+else-not-precedes w ↦ λ h. by_default less c.args.x c.args.slots.now c.lower-i.result w.index-slots-i.result true (omega arith) w.if-not-precedes.ensures
       | else-i-len-via-else-i-len w ↦ λ h. absurd (omega arith)
     ])
     c.if-len-slots.true)
 
 pub returns : goal.returns
 returns g c =
-    let less = partial_lt g.T.PartialOrd.partial_cmp in
-    retold (goes_by g.met.T.Ordered.order g.met.T.Ord.matches_partial_cmp)
+    let less = g.T.Ordered.less in
     (told_new less c.args.x c.args.slots.now c.args.len c.lower-i.result c.args.x c.requires (exact less c.args.x c.args.slots.now c.args.len c.lower-i.result c.lower-i.ensures.value)
     c.open_front.new.row _
     (within less c.args.x c.args.slots.now c.args.len c.lower-i.result c.lower-i.ensures.bound)
     (elim c.else-i-len.branch [
-      | else-i-len-via-then-i-len+else-not-lt w ↦ λ h. by_default less c.args.x c.args.slots.now c.lower-i.result w.index-slots-i.result true (omega arith) w.if-not-lt.ensures
+      | else-i-len-via-then-i-len+else-not-precedes w ↦ λ h. by_default less c.args.x c.args.slots.now c.lower-i.result w.index-slots-i.result true (omega arith) w.if-not-precedes.ensures
       | else-i-len-via-else-i-len w ↦ λ h. absurd (omega arith)
     ])
     (omega arith) c.open_front.ensures refl)

@@ -3,7 +3,7 @@ use Rattle.leaves.specs.declared.pairs.Pair.{Pair}
 use Rattle.rolls.specs.declared.Roll.{Roll}
 use Rattle.roots.specs.Asked.{Asked, Answerable, asked}
 use Rattle.roots.specs.Desk.{desk_of}
-use Rattle.roots.proofs.TwoWalks.{stays, closed}
+use Rattle.roots.proofs.TwoWalks.{stays, first_fits, closed}
 use Rattle.roots.proofs.listing.collect_roots.Goals as goal
 
 -- the roll begins on the slots that the area has
@@ -19,6 +19,7 @@ walk_turned-requires g c =
     let t = c.requires.turns in
     let d = desk_of c.walk_question.new.finder in
     let s = stays F a _ (length c.args.room.now) c.new-roll.result.slots.now (begins a _ c.new-roll.ensures.same x) d c.new-roll.ensures.empty c.requires.depth c.walk_question.ensures.walked in
+    let fits = first_fits F a _ (length c.args.room.now) c.new-roll.result.slots.now (begins a _ c.new-roll.ensures.same x) d c.new-roll.ensures.empty c.requires.depth c.walk_question.ensures.walked in
     let eℓ = ap (λ (z : Asked). z.ℓ) t.is in
     let ec = ap (λ (z : Asked). z.c) t.is in
     let e₁ = ap (λ (z : Asked). z.w₁) t.is in
@@ -34,7 +35,7 @@ walk_turned-requires g c =
             all = t.all;
             long = let l = t.long in cc;
             work = omega (arith, s.6);
-            fits = c.walk_question.new.finder.roll.now.fits;
+            fits = fits;
           };
       depth = omega (arith, c.walk_question.auto.digits);
       room =
