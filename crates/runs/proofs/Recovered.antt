@@ -26,6 +26,7 @@ use Rattle.runs.specs.declared.Call.TheVariants.{Read, List as ListAll}
 use Rattle.runs.specs.declared.Outcome.{Outcome}
 use Rattle.runs.specs.declared.CallFault.{CallFault}
 use Rattle.runs.specs.Law.{Reply, reply, tells, lists, refuses, RightList, Answered, Runs}
+use Rattle.runs.specs.Kinds.{EachBefits}
 use Rattle.runs.specs.History.{history, latest, Full, Recovers, ListsComplete, ListsGiven, TrueAfter, Law}
 use Rattle.runs.proofs.Histories.{Written, run_written, fair_after, place_after, given_after, reads_tell}
 use Rattle.runs.proofs.Running.{up_to}
@@ -176,6 +177,9 @@ blank_law F tag lent n k b e cs os u c run =
     whole_law F tag lent _ _ e
     (subst (λ (i : ℕ). Runs F.q F tag lent unopened (take i cs) (map reply (take i os)) e) c
     (subst (λ (z : Book). Runs F.q F tag lent z (take n cs) (map reply (take n os)) e) u run))
+
+pub same_kinds : (cs : List Call) (os : List (Result Outcome CallFault)) (n k : ℕ) → n ≡ k → EachBefits (take n cs) (take n os) → EachBefits (take k cs) (take k os)
+same_kinds cs os n k e h = subst (λ (i : ℕ). EachBefits (take i cs) (take i os)) e h
 
 pub same_rest : (xs ys : List (Result Outcome CallFault)) (n k : ℕ) → n ≡ k → drop n xs ≡ drop n ys → drop k xs ≡ drop k ys
 same_rest xs ys n k e h = subst (λ (i : ℕ). drop i xs ≡ drop i ys) e h

@@ -4,6 +4,7 @@ ghost use Rattle.collections.specs.Standing.{standing, shares};
 ghost use Rattle.listings.specs.Calls.{listing_fault};
 ghost use Rattle.runs.specs.Law.{RightList, ListedBy, Answered, WorkAfter, Runs, reply, listing_reply};
 ghost use Rattle.runs.specs.History.{Law};
+ghost use Rattle.runs.specs.Kinds.{Befits, EachBefits};
 
 use crate::{Answer, Call, Found, Outcome};
 use areas::Wipe;
@@ -47,6 +48,7 @@ fn list_within<F: Field>(
 // Makes one call. By a match over an enum, since a run is a list of calls and the law speaks of each.
 pub fn perform<F: Field>(c: &mut Collection<F>, call: Call<'_>, work: &mut [u16]) -> Answer
     ensures law { Answered F.Field.numbers.q F.Field.numbers F.Field.SHEET_NUMBER (length work.old) (standing c.old.kept) call.entry (reply result) (standing c.new.kept) }
+    ensures kind { Befits call.entry result }
     ensures area { WorkAfter call.entry work.old work.new }
 {
     match call {
@@ -71,6 +73,7 @@ pub fn run<F: Field>(
 ) -> usize
     ensures count { result ≡ min (length calls.now) (length answers.old) }
     ensures runs { Runs F.Field.numbers.q F.Field.numbers F.Field.SHEET_NUMBER (length work.old) (standing c.old.kept) (take result calls.now) (map reply (take result answers.new)) (standing c.new.kept) }
+    ensures kinds { EachBefits (take result calls.now) (take result answers.new) }
     ensures rest { drop result answers.new ≡ drop result answers.old }
     ensures wiped { AllZero work.new }
 {
@@ -90,6 +93,7 @@ pub fn run_blank<F: Field>(
     work: &mut [u16],
 ) -> Collection<F>
     ensures law { let made = min (length calls.now) (length answers.old) in Law F.Field.numbers F.Field.SHEET_NUMBER (length work.old) (take made calls.now) (map reply (take made answers.new)) (standing result.kept) }
+    ensures kinds { let made = min (length calls.now) (length answers.old) in EachBefits (take made calls.now) (take made answers.new) }
     ensures rest { let made = min (length calls.now) (length answers.old) in drop made answers.new ≡ drop made answers.old }
     ensures wiped { AllZero work.new }
 {
