@@ -1,5 +1,5 @@
 -- What two replies, to a loading on a blank collection and to a listing after it, tell by the law on runs.
-use Rattle.std.proofs.Common.{◌≡◌, ℕ, min, List, [], ◌∷◌, map, length, get_or, take, Some, None, Option, Result, sym, refl, ap, ◌∙◌, subst, arith, Bor}
+use Rattle.std.proofs.Common.{◌≡◌, ℕ, min, List, [], ◌∷◌, map, length, get_or, take, Some, None, Option, Result, sym, refl, ap, ◌∙◌, subst, arith, Bor, Ok, Err, IfErr, ◌⊎◌, ⊎_elim}
 use Rattle.fields.specs.Numbers.{Numbers}
 use Rattle.faults.specs.declared.ListingFault.{ListingFault}
 use Rattle.faults.specs.declared.SheetFault.{SheetFault}
@@ -10,10 +10,14 @@ use Rattle.listings.specs.Calls.{listing_fault}
 use Rattle.runs.specs.declared.Call.{Call}
 use Rattle.runs.specs.declared.Call.TheVariants.{Load, List as ListAll}
 use Rattle.runs.specs.declared.CallFault.{CallFault}
+use Rattle.runs.specs.declared.CallFault.TheVariants.{Collection, Sheet, Listing}
 use Rattle.runs.specs.declared.Outcome.{Outcome}
+use Rattle.runs.specs.Kinds.{OfSheet, OfListing, Befits, EachBefits}
 use Rattle.runs.specs.Law.{Reply, reply, with_byte, RightList, Answered, Runs, stop, go}
+use Rattle.console.specs.declared.Listed.{Listed}
 use Rattle.console.specs.Output.{PrintsListing, PrintsLoading, PrintsSheet}
 use Rattle.console.specs.Replies.{reply_text, answers_text, ToListing}
+use Rattle.console.specs.Reports.{OfSheetOrListing}
 
 -- the book between two calls
 pub record Between (F : Numbers) (tag lent : ℕ) (b : Book) (c d : Call) (r s : Reply) (e : Book) : Type 0 where
@@ -73,3 +77,27 @@ told F tag lent k n bytes e answers d h run =
 pub printed : {F : Numbers} {tag k n w : ℕ} {bs : List ℕ} {r s : Reply} (text : List ℕ) → text ≡ answers_text k n r s → Told F tag k n w bs r s
     → PrintsSheet F tag k n w bs text
 printed {F} {tag} {k} {n} {w} {bs} text e t = subst (PrintsSheet F tag k n w bs) (sym e) t.prints
+
+-- the two answers in the area befit their calls; so a fault that is one of theirs is the sheet's or the listing's
+pub two_befit : (bytes : Bor (List ℕ)) (answers : List (Result Outcome CallFault)) (d : Result Outcome CallFault) → length answers ≡ 2
+    → EachBefits (Load bytes ∷ ListAll 8 32000 ∷ []) (take 2 answers)
+    → Befits (Load bytes) (get_or answers 0 d) × Befits (ListAll 8 32000) (get_or answers 1 d)
+two_befit bytes [] d h e = absurd (omega arith)
+two_befit bytes (a ∷ []) d h e = absurd (omega arith)
+two_befit bytes (a ∷ b ∷ xs) d h e = (e 0 (Load bytes) a refl refl, e 1 (ListAll 8 32000) b refl refl)
+
+of_sheet : (f : CallFault) → OfSheet f → OfSheetOrListing f
+of_sheet (Collection f) h = h
+of_sheet (Sheet f) h = h
+of_sheet (Listing f) h = tt
+
+of_listing : (f : CallFault) → OfListing f → OfSheetOrListing f
+of_listing (Collection f) h = h
+of_listing (Sheet f) h = tt
+of_listing (Listing f) h = h
+
+pub of_either : (r : Result Listed CallFault) (bytes : Bor (List ℕ)) (a b : Result Outcome CallFault) → IfErr r (λ f. (a ≡ Err f) ⊎ (b ≡ Err f))
+    → Befits (Load bytes) a → Befits (ListAll 8 32000) b → IfErr r OfSheetOrListing
+of_either (Ok x) bytes a b h s l = tt
+of_either (Err f) bytes a b h s l =
+    ⊎_elim (λ (e : a ≡ Err f). of_sheet f (subst (Befits (Load bytes)) e s)) (λ (e : b ≡ Err f). of_listing f (subst (Befits (ListAll 8 32000)) e l)) h

@@ -1,8 +1,9 @@
-ghost use Rattle.std.specs.Prelude.{◌≡◌, min, length, IfOk};
+ghost use Rattle.std.specs.Prelude.{◌≡◌, ◌⊎◌, min, length, IfOk, IfErr, Err};
 ghost use Rattle.runs.specs.Law.{reply};
 ghost use Rattle.console.specs.Lines.{report_text};
 ghost use Rattle.console.specs.Output.{PrintsSheet, PrintsHeaded, Prints};
 ghost use Rattle.console.specs.Replies.{answers_text, ToListing};
+ghost use Rattle.console.specs.Reports.{OfSheetOrListing};
 
 use crate::{Header, Listed, Report, read_header};
 use fields::{Field, Gf16, Gf256, Mod7, Mod929};
@@ -17,7 +18,8 @@ const WORK: usize = 32_000;
 // What a sheet lists, or what refuses it, by the answers to its loading and its listing.
 fn listed(header: Header, loading: Answer, listing: Answer) -> Result<Listed, CallFault>
     requires { ToListing (reply listing) }
-    ensures { report_text result ≡ answers_text header.threshold header.places (reply loading) (reply listing) }
+    ensures text { report_text result ≡ answers_text header.threshold header.places (reply loading) (reply listing) }
+    ensures fault { IfErr result (λ f. (loading ≡ Err f) ⊎ (listing ≡ Err f)) }
 {
     loading?;
     match listing? {
@@ -32,7 +34,8 @@ fn listed(header: Header, loading: Answer, listing: Answer) -> Result<Listed, Ca
 
 // Loads a sheet into a blank collection over the field F, and lists its candidates.
 fn list_over<F: Field>(header: Header, bytes: &[u8], work: &mut [u16]) -> Result<Listed, CallFault>
-    ensures { PrintsSheet F.Field.numbers F.Field.SHEET_NUMBER header.threshold header.places (min 32000 (length work.old)) bytes.now (report_text result) }
+    ensures prints { PrintsSheet F.Field.numbers F.Field.SHEET_NUMBER header.threshold header.places (min 32000 (length work.old)) bytes.now (report_text result) }
+    ensures kind { IfErr result OfSheetOrListing }
 {
     let calls = [
         Call::Load(bytes),
@@ -48,7 +51,8 @@ fn list_over<F: Field>(header: Header, bytes: &[u8], work: &mut [u16]) -> Result
 
 // By a match, since a value picks a type here.
 fn list_headed(header: Header, bytes: &[u8], work: &mut [u16]) -> Result<Listed, CallFault>
-    ensures { PrintsHeaded header (min 32000 (length work.old)) bytes.now (report_text result) }
+    ensures prints { PrintsHeaded header (min 32000 (length work.old)) bytes.now (report_text result) }
+    ensures kind { IfErr result OfSheetOrListing }
 {
     match header.field {
         FieldName::Mod7 => list_over::<Mod7>(header, bytes, work),
@@ -60,7 +64,8 @@ fn list_headed(header: Header, bytes: &[u8], work: &mut [u16]) -> Result<Listed,
 
 // The candidates of a sheet, or what refuses it.
 pub fn list_sheet(heap: Global, bytes: &[u8]) -> Result<Report, AllocError>
-    ensures { IfOk result (λ x. Prints bytes.now (report_text x.0)) }
+    ensures prints { IfOk result (λ x. Prints bytes.now (report_text x.0)) }
+    ensures kind { IfOk result (λ x. IfErr x.0 OfSheetOrListing) }
 {
     match read_header(bytes) {
         Ok(header) => {

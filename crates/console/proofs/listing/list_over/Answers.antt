@@ -1,7 +1,7 @@
 use Rattle.std.proofs.Common.{length}
 use Rattle.collections.specs.Standing.{standing}
 use Rattle.console.specs.Lines.{report_text}
-use Rattle.console.proofs.Told.{told, printed}
+use Rattle.console.proofs.Told.{told, printed, two_befit, of_either}
 use Rattle.console.proofs.listing.list_over.Goals as goal
 
 pub listed-requires : goal.listed-requires
@@ -11,6 +11,11 @@ listed-requires g c =
 
 pub returns : goal.returns
 returns g c =
-    printed (report_text c.listed.result) c.listed.ensures
-    (told g.F.Field.numbers g.F.Field.SHEET_NUMBER (length c.args.work.now) c.args.header.threshold c.args.header.places c.args.bytes
-    (standing c.run_blank.result.kept) c.run_blank.new.answers _ c.run_blank.auto.answers c.run_blank.ensures.law.runs)
+    let both = two_befit c.args.bytes c.run_blank.new.answers _ c.run_blank.auto.answers c.run_blank.ensures.kinds in
+    record {
+      prints =
+          printed (report_text c.listed.result) c.listed.ensures.text
+          (told g.F.Field.numbers g.F.Field.SHEET_NUMBER (length c.args.work.now) c.args.header.threshold c.args.header.places c.args.bytes
+          (standing c.run_blank.result.kept) c.run_blank.new.answers _ c.run_blank.auto.answers c.run_blank.ensures.law.runs);
+      kind = of_either c.listed.result c.args.bytes _ _ c.listed.ensures.fault both.0 both.1;
+    }
