@@ -37,6 +37,7 @@ fn copy<S: Source>(source: &S, out: &mut [u16]) -> Result<(), ListingFault>
 }
 
 // Refuses numbers that are no elements of a field of q elements.
+#[tactic(auto, using(crate::proofs::Copies::elements_first))]
 fn check_elements(q: u16, xs: &[u16]) -> Result<(), ListingFault>
     ensures { fault_of result ≡ element_fault q xs.now }
 {

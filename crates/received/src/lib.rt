@@ -9,7 +9,6 @@ use std::alloc::AllocError;
 use std::marker::PhantomData;
 
 // A point, a multiplier and a share for each place, all of them elements of the field.
-#[derive(Drop)]
 pub struct Received<'a, F: Field> {
     pub points: &'a [u16],
     pub multipliers: &'a [u16],

@@ -169,6 +169,12 @@ else_none : {X : Type 0} (o : Option X) → or_else o None ≡ o
 else_none None = refl
 else_none (Some x) = refl
 
+-- what the latest of two lists of acts says: that of the second, and where it says nothing that of the first
+latest_more : (p : ℕ) (xs ys : List Act) → latest p (xs ++ ys) ≡ or_else (latest p ys) (latest p xs)
+latest_more p [] ys = sym (else_none (latest p ys))
+latest_more p (a ∷ xs) ys =
+    ap (λ (o : Option Place). or_else o (makes p a)) (latest_more p xs ys) ∙ sym (else_assoc (latest p ys) (latest p xs) (makes p a))
+
 pub given_after : (q : ℕ) (acts : List Act) (e : Book) → Written q unopened acts e → given_in e ≡ given_by acts
 given_after q acts e s = shown_after q given_in gives (given_step q) unopened e acts s ∙ else_none (given_by acts)
 

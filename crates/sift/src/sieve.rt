@@ -10,7 +10,6 @@ use std::alloc::AllocError;
 
 // What came in for the places of a code, the threshold and the radius, and the second entries h1, h2 of the two rows at which Euclid's algorithm stops.
 // The points are distinct, and no point and no multiplier is 0.
-#[derive(Drop)]
 pub struct Sieve<'a, F: Field> {
     pub received: Received<'a, F>,
     pub threshold: usize,
