@@ -15,13 +15,13 @@ loop-j-preserved c =
     let j = c.loop-j.j in
     elim c.if-word-j.branch [
       | then-word-j+else-values-j-ne0 w ↦ (
-        w.distance-is ∙ ap (λ (n : ℕ). n + 1) c.loop-j.invariant.0 ∙ sym (count_more (differs word rs) j true (differs_yes word rs j w.if-word-j.true)),
+        w.distance-is ∙ ap (λ (n : ℕ). n + 1) c.loop-j.invariant.0 ∙ sym (count_more (differs word rs) j true (differs_yes word rs j (λ e. grind (arith, e)))),
         omega (arith, w.distance-is),
         below_more _ _ c.loop-j.invariant.2 (λ h. absurd (h w.if-values-j-ne0.false)),
       )
       | else-word-j w ↦ (
-        w.distance-is ∙ c.loop-j.invariant.0 ∙ sym (count_more (differs word rs) j false (differs_no word rs j w.if-word-j.false) ∙ add-zero _),
+        w.distance-is ∙ c.loop-j.invariant.0 ∙ sym (count_more (differs word rs) j false (differs_no word rs j (grind arith)) ∙ add-zero _),
         omega (arith, w.distance-is),
-        below_more _ _ c.loop-j.invariant.2 (λ h. w.if-word-j.false),
+        below_more _ _ c.loop-j.invariant.2 (λ h. grind arith),
       )
     ]
