@@ -1,4 +1,4 @@
-// Candidates as records, and their order. Only `sift_pair` writes the parts of a record.
+// Candidates as records, and their order. Only `sift_pair` writes the parts of a record, and only `precedes` compares them, by the derived order.
 ghost use Rattle.std.specs.Prelude.{◌≡◌};
 ghost use Rattle.candidates.specs.Order.{in_order};
 ghost use Rattle.candidates.specs.Orders.{in_order_total};

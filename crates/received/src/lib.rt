@@ -1,7 +1,7 @@
 // What came in for the places of a code.
 #![tactic(auto)]
 
-ghost use Rattle.std.specs.Prelude.{◌≡◌, length};
+ghost use Rattle.std.specs.Prelude.{◌≡◌, length, ⊤};
 ghost use Rattle.fields.specs.Numbers.{AllBelow};
 
 use fields::Field;
@@ -21,8 +21,12 @@ pub struct Received<'a, F: Field> {
     pub ghost a_share_each: { length shares.now ≡ length points.now },
 }
 
-// By hand, since nothing is to be asked of F, and a struct with ghost fields derives no `Clone`.
+// By hand, since none is derived for a struct with both a type parameter and ghost fields. As a derived one, it gives the same value and does not fail.
 impl<'a, F: Field> Clone for Received<'a, F> {
+    ghost is_clone = { λ x y. y ≡ x };
+
+    ghost is_infallible = { λ _. ⊤ };
+
     fn clone(&self) -> Result<Received<'a, F>, AllocError> {
         Ok(*self)
     }

@@ -1,5 +1,5 @@
 // What pairs are sifted by.
-ghost use Rattle.std.specs.Prelude.{◌≡◌, ◌≤◌, length};
+ghost use Rattle.std.specs.Prelude.{◌≡◌, ◌≤◌, length, ⊤};
 ghost use Rattle.fields.specs.Numbers.{AllBelow};
 ghost use Rattle.sift.specs.Interpolation.{Distinct};
 ghost use Rattle.sift.specs.Received.{NonZero};
@@ -24,8 +24,12 @@ pub struct Sieve<'a, F: Field> {
     pub ghost second_row: { AllBelow F.Field.numbers.q h2.now },
 }
 
-// By hand, as `Received`.
+// By hand, as that of `Received`.
 impl<'a, F: Field> Clone for Sieve<'a, F> {
+    ghost is_clone = { λ x y. y ≡ x };
+
+    ghost is_infallible = { λ _. ⊤ };
+
     fn clone(&self) -> Result<Sieve<'a, F>, AllocError> {
         Ok(*self)
     }
